@@ -1,0 +1,25 @@
+-- Document 01's numbers: "Stops, in checking order".
+-- Assumes nothing.
+use Prim.Native.Nat.{ℕ}
+use Rattle.refusal.specs.declared.Reason.{Reason}
+use Rattle.refusal.specs.declared.Reason.the-variants.{TableCut, CommandNotAllowed, FactCountOutOfRange, TooManyJobs, TableMaskOutOfRange, EffectsOverlap, BytesAfterTable, BadReading, StartUnread, ListFull, NoWay, TreeTooShort, BadTree, TreeTooDeep, TreeOperandOutOfRange, NoSuchJob, NeedNotHeld, CardExhausted}
+
+abbrev pub numberOf : Reason → ℕ
+numberOf TableCut = 1
+numberOf CommandNotAllowed = 2
+numberOf FactCountOutOfRange = 3
+numberOf TooManyJobs = 4
+numberOf TableMaskOutOfRange = 5
+numberOf EffectsOverlap = 6
+numberOf BytesAfterTable = 7
+numberOf BadReading = 8
+numberOf StartUnread = 9
+numberOf ListFull = 10
+numberOf NoWay = 11
+numberOf TreeTooShort = 12
+numberOf BadTree = 13
+numberOf TreeTooDeep = 14
+numberOf TreeOperandOutOfRange = 15
+numberOf NoSuchJob = 16
+numberOf NeedNotHeld = 17
+numberOf CardExhausted = 18
