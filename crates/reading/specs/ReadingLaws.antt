@@ -1,0 +1,48 @@
+-- Laws of readings and of the states that complete them.
+-- Assumes nothing.
+use Prim.Native.Nat.{ℕ}
+use native.Mathlib.Omega.{arith}
+use mathlib.Core.Path.{_≡_}
+use mathlib.Core.Bool.{not}
+use lib.Dec.{T}
+use Rattle.base.specs.Bools.{and-intro, and-left, and-right}
+use Rattle.masks.specs.Sets.{intersects, union, within}
+use Rattle.masks.specs.Bits.{bit-le, bit-union, bit-empty, subset-bits, bits-subset, bits-disjoint}
+use Rattle.masks.specs.Laws.{subset-refl, subset-antisym, subset-union-left, within-subset, within-union, within-empty}
+use Rattle.reading.specs.declared.Reading.{Reading}
+use Rattle.reading.specs.Reading.{sound, Completes, state}
+
+module _ (f : ℕ) (r : Reading) where
+  pub sound-held : T (sound f r) → T (within f (r .held))
+  unfolding sound
+  sound-held t = and-left (within f (r .held)) _ t
+
+  pub sound-unread : T (sound f r) → T (within f (r .unread))
+  unfolding sound
+  sound-unread t = and-left (within f (r .unread)) _ (and-right (within f (r .held)) _ t)
+
+  pub sound-apart : T (sound f r) → T (not (intersects (r .held) (r .unread)))
+  unfolding sound
+  sound-apart t = and-right (within f (r .unread)) _ (and-right (within f (r .held)) _ t)
+
+  -- a completed reading is a state
+  pub completes-within : T (sound f r) → (s : ℕ) → Completes r s → T (within f s)
+  completes-within t s c = within-subset f s (union (r .held) (r .unread)) (c .adds-unread) (within-union f (r .held) (r .unread) (sound-held t) (sound-unread t))
+
+-- a reading is completed by taking all its unread facts as absent, or as held
+pub absent-completes : (r : Reading) → Completes r (r .held)
+absent-completes r = record { keeps-held = subset-refl (r .held); adds-unread = subset-union-left (r .held) (r .unread) }
+
+pub held-completes : (r : Reading) → Completes r (union (r .held) (r .unread))
+held-completes r = record { keeps-held = subset-union-left (r .held) (r .unread); adds-unread = subset-refl (union (r .held) (r .unread)) }
+
+-- where nothing is unread there is one way
+pub state-completes : (s u : ℕ) → Completes (state s) u → s ≡ u
+state-completes s u c =
+    subset-antisym s u (c .keeps-held) (bits-subset u s (λ i. omega (arith, subset-bits u (union s 0) (c .adds-unread) i, bit-union s 0 i, bit-empty i)))
+
+-- a state within F is a sound reading
+pub state-sound : (f s : ℕ) → T (within f s) → T (sound f (state s))
+unfolding sound
+state-sound f s t =
+    and-intro (within f s) _ t (and-intro (within f 0) _ (within-empty f) (bits-disjoint s 0 (λ i. omega (arith, bit-le s i, bit-empty i))))
