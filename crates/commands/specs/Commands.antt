@@ -1,0 +1,70 @@
+-- Document 01, "Commands": "Each command is one byte with operands of fixed width. One table gives the operand width of every command."
+-- Assumes nothing.
+use Prim.Native.Nat.{ℕ, _+_}
+use mathlib.Core.List.{List, [], _∷_}
+use lib.Dec.{eqb, ltb, leb}
+use lib.ListN.{length, getD}
+use Rattle.base.specs.Bools.{if_then_else_}
+use Rattle.commands.specs.declared.Command.{Command}
+use Rattle.commands.specs.declared.Width.{Width}
+use Rattle.commands.specs.declared.Width.the-variants.{Bytes, NoCommand}
+use Rattle.commands.specs.declared.Found.{Found}
+use Rattle.commands.specs.declared.Found.the-variants.{Missing, Unknown, Cut, Whole}
+
+abbrev pub FACTS : ℕ
+FACTS = 0x10
+
+abbrev pub JOB : ℕ
+JOB = 0x20
+
+abbrev pub GOAL : ℕ
+GOAL = 0x30
+
+abbrev pub END-OF-TABLE : ℕ
+END-OF-TABLE = 0x3F
+
+abbrev pub FALLBACK : ℕ
+FALLBACK = 0x41
+
+abbrev pub SEQUENCE : ℕ
+SEQUENCE = 0x42
+
+abbrev pub CONDITION : ℕ
+CONDITION = 0x43
+
+abbrev pub JOB-LEAF : ℕ
+JOB-LEAF = 0x44
+
+abbrev pub END-OF-TREE : ℕ
+END-OF-TREE = 0x4F
+
+-- the table: each command byte with the bytes that its operands take
+abbrev pub commands : List Command
+commands =
+    record { byte = FACTS; width = 1 }
+    ∷ record { byte = JOB; width = 26 }
+    ∷ record { byte = GOAL; width = 8 }
+    ∷ record { byte = END-OF-TABLE; width = 0 }
+    ∷ record { byte = FALLBACK; width = 2 }
+    ∷ record { byte = SEQUENCE; width = 2 }
+    ∷ record { byte = CONDITION; width = 8 }
+    ∷ record { byte = JOB-LEAF; width = 1 }
+    ∷ record { byte = END-OF-TREE; width = 0 }
+    ∷ []
+
+-- the width that a list of commands gives a byte
+abbrev pub widthIn : List Command → ℕ → Width
+widthIn [] byte = NoCommand
+widthIn (c ∷ cs) byte = if eqb (c .byte) byte then Bytes (c .width) else widthIn cs byte
+
+unfoldable pub widthOf : ℕ → Width
+widthOf byte = widthIn commands byte
+
+-- a command byte at an offset, judged by the bytes left for its operands
+abbrev pub operandsAt : List ℕ → ℕ → Width → Found
+operandsAt s at NoCommand = Unknown
+operandsAt s at (Bytes w) = if leb (at + 1 + w) (length s) then Whole (getD s at 0) (at + 1 + w) else Cut (getD s at 0)
+
+-- what stands at an offset: a command with its operands and the offset past them, or what is amiss
+unfoldable pub commandAt : List ℕ → ℕ → Found
+commandAt s at = if ltb at (length s) then operandsAt s at (widthOf (getD s at 0)) else Missing

@@ -1,0 +1,4 @@
+pub mod Commands
+pub mod CommandLaws
+pub mod Numbers
+pub mod NumberLaws

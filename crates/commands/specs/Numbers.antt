@@ -1,0 +1,20 @@
+-- Numbers in bytes, least byte first: document 01, "Masks are unsigned 64-bit, least byte first" and "Two-byte numbers have the least byte first".
+-- One definition for every width.
+-- Assumes nothing.
+use Prim.Native.Nat.{ℕ, zero, suc, _+_, _*_, _/_, _%_}
+use mathlib.Core.List.{List, [], _∷_}
+use lib.ListN.{take, drop}
+
+-- the number that bytes hold
+unfoldable pub fromBytes : List ℕ → ℕ
+fromBytes [] = 0
+fromBytes (b ∷ bs) = b + 256 * fromBytes bs
+
+-- the lowest n bytes of a number
+unfoldable pub toBytes : ℕ → ℕ → List ℕ
+toBytes zero v = []
+toBytes (suc n) v = v % 256 ∷ toBytes n (v / 256)
+
+-- the number in the n bytes from an offset on
+unfoldable pub numberAt : ℕ → List ℕ → ℕ → ℕ
+numberAt n s at = fromBytes (take n (drop at s))
