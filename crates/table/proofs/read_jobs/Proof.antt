@@ -1,0 +1,128 @@
+-- `table::read_jobs` meets its contract. The loop's invariant: reading on from here, with the jobs that were passed, gives what reading from the first gives.
+-- The measure is the number of jobs that may still follow.
+-- Assumes nothing.
+use borrow.Author.Needs.{needs}
+use native.Mathlib.Omega.{arith}
+use mathlib.Core.Path.{_≡_, refl, sym, ap, _∙_}
+use Prim.Native.Nat.{_+_, _-_, _≤_, suc}
+use lib.ListN.{length, length-append}
+use mathlib.Core.List.{List, [], _∷_, _++_}
+use Rattle.table.specs.declared.Job.{Job}
+use Rattle.table.specs.Table.{maxJobs}
+use Rattle.table.specs.Read.{readJobs, stepOf, judgedOf, headed, answerOf, judged}
+use Rattle.table.specs.ReadLaws.{goal-inside, job-inside, jobs-refused, jobs-goal, jobs-full, jobs-bad, jobs-more}
+use Rattle.table.proofs.read_jobs.Statement.{statement}
+use Rattle.table.proofs.read_jobs.Tie as tie
+
+abbrev Inv-loop : tie.InvT-loop
+Inv-loop s facts first at₀ jobs₀ at jobs =
+    (jobs ≤ maxJobs) × ((js : List Job) × (length js ≡ jobs) × (readJobs s facts (maxJobs - jobs) js at ≡ readJobs s facts maxJobs [] first))
+
+abbrev μ-loop : tie.MeasureT-loop
+μ-loop s facts first at₀ jobs₀ at jobs = maxJobs - jobs
+
+loop-holds : tie.Need-loop-holds Inv-loop μ-loop
+loop-holds c = (omega arith, ([], refl, refl))
+
+command-due-requires : tie.Need-command-due-requires Inv-loop μ-loop
+command-due-requires c κs = search needs
+
+enum-known-x : tie.Need-enum-known-x Inv-loop μ-loop
+enum-known-x c = search needs
+
+returns : tie.Need-returns Inv-loop μ-loop
+returns c =
+    let l = c .before .before .before .before .loop in
+    ap headed (jobs-refused _ _ (l .inv .1 .0) _ (maxJobs - l .jobs) _ _ (ap stepOf (sym (c .before .x .given .1)) ∙ c .before .before .before .command-due .ensures) ∙ l .inv .1 .2)
+
+enum-known-byte : tie.Need-enum-known-byte Inv-loop μ-loop
+enum-known-byte c = search needs
+
+read-goal-requires : tie.Need-read-goal-requires Inv-loop μ-loop
+read-goal-requires c κs =
+    let e = ap stepOf (sym (c .before .before .byte .given .1)) ∙ c .before .before .before .before .command-due .ensures in
+    omega (arith, goal-inside _ _ _ e (c .if1 .taken) .1)
+
+returns-2 : tie.Need-returns-2 Inv-loop μ-loop
+returns-2 c =
+    let l = c .before .before .before .before .before .before .loop in
+    let e = ap stepOf (sym (c .before .before .before .byte .given .1)) ∙ c .before .before .before .before .before .command-due .ensures in
+    c .read-goal .ensures (l .inv .1 .0) (l .inv .1 .1) ∙ ap headed (jobs-goal _ _ (l .inv .1 .0) _ _ e (maxJobs - l .jobs) (c .before .if1 .taken) ∙ l .inv .1 .2)
+
+refused-requires : tie.Need-refused-requires Inv-loop μ-loop
+refused-requires c κs = search needs
+
+returns-3 : tie.Need-returns-3 Inv-loop μ-loop
+returns-3 c =
+    let l = c .before .before .before .before .before .before .before .loop in
+    let e = ap stepOf (sym (c .before .before .before .before .byte .given .1)) ∙ c .before .before .before .before .before .before .command-due .ensures in
+    let none : maxJobs - l .jobs ≡ 0 = omega arith in
+    ap answerOf (c .refused .ensures) ∙ ap headed (jobs-full _ _ (l .inv .1 .0) _ _ e (c .before .before .if1 .left) ∙ rw none at (l .inv .1 .2))
+
+operands-at-requires : tie.Need-operands-at-requires Inv-loop μ-loop
+operands-at-requires c κs =
+    let e = ap stepOf (sym (c .before .before .before .byte .given .1)) ∙ c .before .before .before .before .before .command-due .ensures in
+    omega (arith, job-inside _ _ _ e (c .before .if1 .left) .1)
+
+judge-requires : tie.Need-judge-requires Inv-loop μ-loop
+judge-requires c κs = search needs
+
+enum-known-x-2 : tie.Need-enum-known-x-2 Inv-loop μ-loop
+enum-known-x-2 c = search needs
+
+returns-4 : tie.Need-returns-4 Inv-loop μ-loop
+returns-4 c =
+    let l = c .before .before .before .before .before .before .before .before .before .before .before .loop in
+    let e = ap stepOf (sym (c .before .before .before .before .before .before .before .before .byte .given .1)) ∙ c .before .before .before .before .before .before .before .before .before .before .command-due .ensures in
+    let more : maxJobs - l .jobs ≡ suc (maxJobs - (l .jobs + 1)) = omega (arith, c .before .before .before .before .before .if2 .left) in
+    let bad = ap (judgedOf _) (sym (c .before .x2 .given .1)) ∙ c .before .before .before .judge .ensures ∙ ap (judged _ _) (c .before .before .before .before .operands-at .ensures) in
+    ap headed (jobs-bad _ _ (l .inv .1 .0) _ _ e (c .before .before .before .before .before .before .if1 .left) (maxJobs - (l .jobs + 1)) _ _ bad ∙ rw more at (l .inv .1 .2))
+
+enum-told : tie.Need-enum-told Inv-loop μ-loop
+enum-told c = search needs
+
+add-jobs : tie.Need-add-jobs Inv-loop μ-loop
+add-jobs c = search needs
+
+loop-less : tie.Need-loop-less Inv-loop μ-loop
+loop-less c = search needs
+
+loop-again : tie.Need-loop-again Inv-loop μ-loop
+loop-again c =
+    let l = c .before .before .before .before .before .before .before .before .before .before .loop in
+    let js = l .inv .1 .0 in
+    let e = ap stepOf (sym (c .before .before .before .before .before .before .before .byte .given .1)) ∙ c .before .before .before .before .before .before .before .before .before .command-due .ensures in
+    let more : maxJobs - l .jobs ≡ suc (maxJobs - (l .jobs + 1)) = omega (arith, c .before .before .before .before .if2 .left) in
+    let j = c .before .before .before .operands-at .result in
+    let sound = ap (judgedOf j) (sym (c .enum-told .given .1)) ∙ c .before .before .judge .ensures ∙ ap (judged _ _) (c .before .before .before .operands-at .ensures) in (
+      omega (arith, c .before .before .before .before .if2 .left),
+      (
+        js ++ (j ∷ []),
+        omega (arith, length-append js (j ∷ []), l .inv .1 .1),
+        jobs-more _ _ js _ _ e (c .before .before .before .before .before .if1 .left) (maxJobs - (l .jobs + 1)) j sound ∙ rw more at (l .inv .1 .2),
+      ),
+    )
+
+pub read-jobs-spec : {M : Type 1} → statement M
+read-jobs-spec =
+    tie.close
+    (tie.spec
+    Inv-loop
+    μ-loop
+    loop-holds
+    command-due-requires
+    enum-known-x
+    returns
+    enum-known-byte
+    read-goal-requires
+    returns-2
+    refused-requires
+    returns-3
+    operands-at-requires
+    judge-requires
+    enum-known-x-2
+    returns-4
+    enum-told
+    add-jobs
+    loop-less
+    loop-again)

@@ -1,0 +1,5 @@
+pub mod Table
+pub mod Read
+pub mod ReadLaws
+pub mod Sound
+pub mod RoundTrip
