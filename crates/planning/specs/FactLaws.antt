@@ -1,0 +1,109 @@
+-- The laws of the domain of facts, and demand 3 in it: document 01, "Work on a vehicle".
+-- Assumes nothing.
+use mathlib.Core.Path.{_≡_, refl, sym}
+use mathlib.Core.Bool.{Bool, _&&_}
+use mathlib.Core.List.{List}
+use mathlib.Core.Logic.{_↔_}
+use Prim.Native.Nat.{ℕ, suc, _≤_, _<_}
+use lib.Dec.{T, T-not, not-T, ltb, ltb→lt}
+use lib.ListN.{length}
+use Rattle.base.specs.Bools.{and-intro, and-left, and-right}
+use Rattle.masks.specs.Sets.{subset, within}
+use Rattle.masks.specs.Laws.{subset-refl, subset-trans}
+use Rattle.masks.specs.Effects.{relevant, irrelevant-kept, regressed-held, regressed-applicable, relevant-achieves, applied-within, regressed-within}
+use Rattle.planning.specs.Domain.{Domain, Laws, Plannable}
+use Rattle.planning.specs.Sequence.{Answer, Reaches}
+use Rattle.planning.specs.Expansion.{Entry, exhausted, covered, entries, entryIn, expand}
+use Rattle.planning.specs.ExpansionLaws.{replan}
+use Rattle.planning.specs.Demand.{FirstIn, CoveredBy, tickList, Fewest}
+use Rattle.planning.specs.DemandLaws.{fewest, fewest-transfer, planned-condition, no-dead-lines, start-first, covers-all, no-way, covered-iff, distance}
+use Rattle.planning.specs.Facts.{Actions, factDomain, unitDomain, startPlan, WithinFacts}
+
+pub fact-laws : (A : Actions) (cost : ℕ → ℕ) (goal : ℕ) → Laws (factDomain A cost goal)
+fact-laws A cost goal =
+    record {
+      irrelevant-kept = λ a s c k m r. irrelevant-kept (A .needs a) (A .adds a) (A .deletes a) s c m
+          (not-T (relevant (A .adds a) (A .deletes a) c) (λ t. T-not (ltb a (A .count) && relevant (A .adds a) (A .deletes a) c) r
+          (and-intro (ltb a (A .count)) _ (and-left (ltb a (A .count)) _ k) t)));
+      regressed-held = λ a s c k m r. regressed-held (A .needs a) (A .adds a) (A .deletes a) s c (and-right (ltb a (A .count)) _ k) m;
+      regressed-applicable = λ a s c r m.
+          and-intro (ltb a (A .count)) _ (and-left (ltb a (A .count)) _ r) (regressed-applicable (A .needs a) (A .adds a) (A .deletes a) s c m);
+      relevant-achieves = λ a s c r m. relevant-achieves (A .needs a) (A .adds a) (A .deletes a) s c (and-right (ltb a (A .count)) _ r) m;
+      weaker-satisfied = λ s c d. subset-trans c d s;
+      weaker-refl = subset-refl;
+      satisfied-satisfiable = λ s c m. tt;
+    }
+
+module _ (A : Actions) (goal : ℕ) where
+  abbrev D : Domain ℕ ℕ ℕ
+  D = unitDomain A goal
+
+  pub fact-plannable : Plannable D (A .count)
+  fact-plannable =
+      record {
+        laws = fact-laws A (λ a. 1) goal;
+        below-count = λ a c t. ltb→lt a (A .count) (and-left (ltb a (A .count)) _ t);
+        unit-cost = λ a. refl;
+      }
+
+  -- ---- any plan over the facts: for a start, or whatever else stops it
+
+  module _ (capacity : ℕ) (stop : ℕ → Bool) where
+    abbrev planned : List (Entry ℕ)
+    planned = entries (expand D (A .count) capacity stop)
+
+    -- demand 3
+    pub fact-fewest : (s : ℕ) → CoveredBy D planned s → Fewest D (tickList D planned) planned s
+    fact-fewest = fewest fact-plannable capacity stop
+
+    -- every entry is expanded
+    module _ (l : List (Entry ℕ)) (e : expand D (A .count) capacity stop ≡ exhausted l) where
+      pub fact-covers-all : (s : ℕ) (w : List ℕ) → Reaches D s w → CoveredBy D l s
+      fact-covers-all = covers-all fact-plannable capacity stop l e
+
+      pub fact-covered-iff : (s : ℕ) → CoveredBy D l s ↔ ((w : List ℕ) × Reaches D s w)
+      fact-covered-iff = covered-iff fact-plannable capacity stop l e
+
+      pub fact-distance : (s i : ℕ) → FirstIn D l s i → (d : ℕ) (w : List ℕ) → Reaches D s w → length w ≡ d
+          → ((v : List ℕ) → Reaches D s v → d ≤ length v) → d ≡ entryIn D l i .depth
+      fact-distance = distance fact-plannable capacity stop l e
+
+    -- ---- within the facts of the table: "A state is a held mask without a bit at or above F"
+
+    module _ (f : ℕ) (W : WithinFacts f A goal) where
+      -- a finished action leaves a state
+      pub result-within : (a s : ℕ) → T (D .applicable a s) → T (within f s) → T (within f (D .result a s))
+      result-within a s t = applied-within f (A .adds a) (A .deletes a) s (W .adds-within a (ltb→lt a (A .count) (and-left (ltb a (A .count)) _ t)))
+
+      -- each listed condition is a set of the table's facts
+      pub condition-within : (i : ℕ) → i < length planned → T (within f (entryIn D planned i .condition))
+      condition-within =
+          planned-condition fact-plannable capacity stop (λ c. T (within f c)) (W .goal-within)
+          (λ a c t. regressed-within f (A .needs a) (A .adds a) c (W .needs-within a (fact-plannable .below-count a c t)))
+
+      -- no dead lines: each entry is the first one met in at least one state
+      pub fact-no-dead-lines : (i : ℕ) → i < length planned → (s : ℕ) × T (within f s) × FirstIn D planned s i
+      fact-no-dead-lines i h =
+          (entryIn D planned i .condition, condition-within i h, no-dead-lines fact-plannable capacity stop (λ c. c) subset-refl (λ c d t. t) i h)
+
+      -- demand 3 for every tick that answers, in each state, as the tick of the list does
+      pub fact-fewest-by : (tick : ℕ → Answer ℕ) → ((s : ℕ) → T (within f s) → tick s ≡ tickList D planned s)
+          → (s : ℕ) → T (within f s) → CoveredBy D planned s → Fewest D tick planned s
+      fact-fewest-by tick alike s w c =
+          fewest-transfer D (λ s. T (within f s)) result-within (tickList D planned) tick (λ s h. sym (alike s h)) planned s w (fact-fewest s c)
+
+  -- ---- document 01's plan, for a start
+
+  module _ (capacity start : ℕ) where
+    -- it ends at the first entry that the start meets
+    pub fact-start-first : (l : List (Entry ℕ)) → startPlan A goal capacity start ≡ covered l → (i : ℕ) × (length l ≡ suc i) × FirstIn D l start i
+    fact-start-first = start-first fact-plannable capacity (λ c. subset c start) start (λ c. refl)
+
+    -- "No way: every entry is expanded and none is part of the start." Then no sequence reaches the goal from it.
+    pub fact-no-way : (l : List (Entry ℕ)) → startPlan A goal capacity start ≡ exhausted l → (w : List ℕ) → Reaches D start w → ⊥
+    fact-no-way l e = no-way fact-plannable capacity (λ c. subset c start) l e start (λ c t. t)
+
+    -- the plan for a start is the plan for its last condition as the start
+    pub fact-replan : (l : List (Entry ℕ)) (n : ℕ) → length l ≡ suc n → startPlan A goal capacity start ≡ covered l
+        → startPlan A goal capacity (entryIn D l n .condition) ≡ covered l
+    fact-replan = replan D (A .count) capacity (λ c. subset c start) (λ a. refl) subset-refl (fact-plannable .below-count)
