@@ -1,0 +1,263 @@
+-- The three loops of the expansion: what holds at the head of each, and why a turn keeps it. What the definition still has to do, from where a
+-- loop stands, gives the outcome of the whole.
+-- Assumes nothing.
+use mathlib.Core.Path.{_≡_, refl, sym, ap, _∙_}
+use mathlib.Core.Bool.{Bool, true, false, not, _&&_}
+use mathlib.Core.List.{List, [], _∷_, _++_}
+use Prim.Native.Nat.{ℕ, _+_, _≤_, _<_, min}
+use native.Mathlib.Omega.{arith}
+use native.Mathlib.Numerals.{add-one}
+use borrow.Author.Count.{below-more}
+use lib.Dec.{T, T-not, not-T, ltb, lt→ltb}
+use lib.ListN.{length, getD}
+use lib.Seq.{getD-set-other}
+use Rattle.base.specs.Bools.{and-intro, and-right}
+use Rattle.masks.specs.Sets.{subset}
+use Rattle.masks.specs.Effects.{relevant, regressed}
+use Rattle.planning.specs.Domain.{Domain}
+use Rattle.planning.specs.Expansion.{Entry, Outcome, exhausted, covered, full, root, entryIn, newCondition, newEntry, wanted, remainingFrom, remainingAt}
+use Rattle.planning.specs.ExpansionSteps.{start-full, start-covered, start-going, enter-entry, leave-entry, last-entry, skip-action, list-full, list-ends}
+use Rattle.planning.specs.ExpansionSteps.{list-grows}
+use Rattle.planning.specs.SearchLaws.{none-listed, wanted-intro, unwanted-irrelevant, unwanted-listed}
+use Rattle.planning.specs.ColumnLaws.{length-prefix, getD-prefix, entries-store}
+use Rattle.planning.specs.Facts.{Actions, unitDomain, startPlan}
+use Rattle.expander.specs.Expands.{Columns, room, held}
+use Rattle.expander.specs.ExpandsLaws.{entryOf}
+use Rattle.expander.proofs.Tables.{Holds, store, holds-none, holds-store, holds-self, holds-on}
+
+-- ---- what holds at the head of each loop
+
+-- Where the loop began, the tables were t₀ and held n₀ entries; now they are t and hold n, and those below e are expanded.
+pub record AtEntry (A : Actions) (goal start capacity count : ℕ) (t₀ : Columns) (n₀ : ℕ) (t : Columns) (n e : ℕ) : Type 0 where
+  pub counted : count ≡ A .count
+  pub holds : Holds capacity n t₀ t
+  pub grown : n₀ ≤ n
+  pub inside : e ≤ n
+  pub same : remainingFrom (unitDomain A goal) (A .count) capacity (λ c. subset c start) e (held t n) ≡ startPlan A goal capacity start
+
+-- Besides, the actions below a were tried at entry e, whose condition is c and whose depth is d.
+pub record AtAction (A : Actions) (goal start capacity count : ℕ) (t₀ : Columns) (n₀ e c d : ℕ) (t : Columns) (n a : ℕ) : Type 0 where
+  pub counted : count ≡ A .count
+  pub holds : Holds capacity n t₀ t
+  pub grown : n₀ ≤ n
+  pub inside : e < n
+  pub its-condition : c ≡ getD (t .conditions) e 0
+  pub its-depth : d ≡ getD (t .depths) e 0
+  pub tried : a ≤ A .count
+  pub same : remainingAt (unitDomain A goal) (A .count) capacity (λ c. subset c start) e a (held t n) ≡ startPlan A goal capacity start
+
+-- None of the first k listed conditions is a part of c.
+pub record AtListed (conditions : List ℕ) (n c k : ℕ) : Type 0 where
+  pub inside : k ≤ n
+  pub passed : (i : ℕ) → i < k → T (subset (getD conditions i 0) c) → ⊥
+
+-- Where the search found nothing: action a serves c, and of what it makes of c no listed condition is a part.
+pub record Wanted (A : Actions) (conditions : List ℕ) (n c a new : ℕ) : Type 0 where
+  pub below : a < A .count
+  pub serves : T (relevant (A .adds a) (A .deletes a) c)
+  pub made : new ≡ regressed (A .needs a) (A .adds a) c
+  pub unlisted : (i : ℕ) → i < n → T (subset (getD conditions i 0) new) → ⊥
+
+-- ---- before the loops
+
+-- entry 0 is stored
+pub root-held : {capacity : ℕ} (goal : ℕ) (t : Columns) → capacity ≡ room t → 0 < capacity → Holds capacity 1 t (store t 0 goal 255 0 0)
+root-held goal t e h = holds-store (holds-none t e) h goal 255 0 0 (omega arith)
+
+module _ (A : Actions) (goal start : ℕ) {capacity : ℕ} (t : Columns) (e : capacity ≡ room t) where
+  abbrev D₀ : Domain ℕ ℕ ℕ
+  D₀ = unitDomain A goal
+
+  pub no-room : capacity ≡ 0 → full (held t 0) ≡ startPlan A goal capacity start
+  no-room z = sym (start-full D₀ (A .count) capacity (λ c. subset c start) z)
+
+  module _ (h : 0 < capacity) where
+    root-list : held (store t 0 goal 255 0 0) 1 ≡ root D₀ ∷ []
+    root-list = entries-store (t .conditions) (t .actions) (t .parents) (t .depths) 0 goal 255 0 0 (omega arith) (omega arith) (omega arith) (omega arith)
+
+    pub goal-met : T (subset goal start) → covered (held (store t 0 goal 255 0 0) 1) ≡ startPlan A goal capacity start
+    goal-met s = ap covered root-list ∙ sym (start-covered D₀ (A .count) capacity (λ c. subset c start) h s)
+
+    pub first-entry : {count : ℕ} → count ≡ A .count → T (not (subset goal start))
+        → AtEntry A goal start capacity count (store t 0 goal 255 0 0) 1 (store t 0 goal 255 0 0) 1 0
+    first-entry q s =
+        record {
+          counted = q;
+          holds = holds-self (root-held goal t e h);
+          grown = omega arith;
+          inside = omega arith;
+          same = rw root-list (sym (start-going D₀ (A .count) capacity (λ c. subset c start) h s));
+        }
+
+-- ---- the entries
+
+module _ {A : Actions} {goal start capacity count : ℕ} {t₀ t : Columns} {n₀ n e : ℕ} (I : AtEntry A goal start capacity count t₀ n₀ t n e) where
+  abbrev D₁ : Domain ℕ ℕ ℕ
+  D₁ = unitDomain A goal
+
+  held-length : length (held t n) ≡ n
+  held-length = length-prefix (entryOf t) n
+
+  -- every entry is expanded
+  pub exhausts : e ≡ n → exhausted (held t n) ≡ startPlan A goal capacity start
+  exhausts h = sym (last-entry D₁ (A .count) capacity (λ c. subset c start) e (held t n) (omega (arith, held-length))) ∙ I .same
+
+  -- entry e is one of them
+  module _ (other : e ≡ n → ⊥) where
+    less : e < n
+    less = omega (arith, I .inside)
+
+    pub enter : AtAction A goal start capacity count t n e (getD (t .conditions) e 0) (getD (t .depths) e 0) t n 0
+    enter =
+        record {
+          counted = I .counted;
+          holds = holds-self (I .holds);
+          grown = omega arith;
+          inside = less;
+          its-condition = refl;
+          its-depth = refl;
+          tried = omega arith;
+          same =
+              sym (enter-entry D₁ (A .count) capacity (λ c. subset c start) e (held t n) (omega (arith, less, held-length))
+              (omega (arith, held-length, I .holds .fits)))
+              ∙ I .same;
+        }
+
+    -- every action was tried at it
+    pub leave : {c d : ℕ} {u : Columns} {m a : ℕ} → AtAction A goal start capacity count t n e c d u m a → count ≤ a
+        → AtEntry A goal start capacity count t₀ n₀ u m (e + 1)
+    leave {c} {d} {u} {m} {a} J h =
+        let all : a ≡ A .count = omega (arith, J .counted, J .tried) in
+        record {
+          counted = I .counted;
+          holds = holds-on (I .holds) (J .holds) (J .grown);
+          grown = omega (arith, I .grown, J .grown);
+          inside = omega (arith, J .inside);
+          same = rw (add-one e) (sym (leave-entry D₁ (A .count) capacity (λ c. subset c start) e (held u m)) ∙ rw all at (J .same));
+        }
+
+-- ---- the actions at an entry
+
+module _ {A : Actions} {goal start capacity count : ℕ} {t₀ t : Columns} {n₀ n e c d a : ℕ}
+    (I : AtAction A goal start capacity count t₀ n₀ e c d t n a) where
+  abbrev D : Domain ℕ ℕ ℕ
+  D = unitDomain A goal
+
+  -- the entry in hand, as the definition lists it
+  abbrev it : Entry ℕ
+  it = entryIn D (held t n) e
+
+  it-is : it ≡ entryOf t e
+  it-is = getD-prefix (entryOf t) n e (root D) (I .inside)
+
+  its-condition-is : it .condition ≡ c
+  its-condition-is = ap (λ x. x .condition) it-is ∙ sym (I .its-condition)
+
+  its-length : length (held t n) ≡ n
+  its-length = length-prefix (entryOf t) n
+
+  -- the condition of entry i, as the definition lists it
+  listed-is : (i : ℕ) → i < n → entryIn D (held t n) i .condition ≡ getD (t .conditions) i 0
+  listed-is i h = ap (λ x. x .condition) (getD-prefix (entryOf t) n i (root D) h)
+
+  module _ (more : a < count) where
+    below : a < A .count
+    below = omega (arith, I .counted)
+
+    skip : T (not (wanted D a it (held t n))) → AtAction A goal start capacity count t₀ n₀ e c d t n (a + 1)
+    skip w =
+        record {
+          counted = I .counted;
+          holds = I .holds;
+          grown = I .grown;
+          inside = I .inside;
+          its-condition = I .its-condition;
+          its-depth = I .its-depth;
+          tried = omega (arith, below);
+          same = rw (add-one a) (sym (skip-action D (A .count) capacity (λ c. subset c start) e a (held t n) below w) ∙ I .same);
+        }
+
+    -- the action does not serve the condition
+    pub skip-irrelevant : T (not (relevant (A .adds a) (A .deletes a) c)) → AtAction A goal start capacity count t₀ n₀ e c d t n (a + 1)
+    skip-irrelevant r =
+        skip (unwanted-irrelevant D a it (held t n)
+        (rw its-condition-is (not-T (ltb a (A .count) && relevant (A .adds a) (A .deletes a) c)
+        (λ s. T-not (relevant (A .adds a) (A .deletes a) c) r (and-right (ltb a (A .count)) _ s)))))
+
+    -- a listed condition is a part of what it makes of it
+    pub skip-listed : (new : ℕ) → new ≡ regressed (A .needs a) (A .adds a) c → (k : ℕ) → k < n → T (subset (getD (t .conditions) k 0) new)
+        → AtAction A goal start capacity count t₀ n₀ e c d t n (a + 1)
+    skip-listed new made k h s =
+        skip (unwanted-listed D a it (held t n) k (omega (arith, its-length)) (rw (its-condition-is, ← made, listed-is k h) s))
+
+  module _ {new : ℕ} (W : Wanted A (t .conditions) n c a new) where
+    new-is : newCondition D a it ≡ new
+    new-is = rw its-condition-is (sym (W .made))
+
+    is-wanted : T (wanted D a it (held t n))
+    is-wanted =
+        wanted-intro D a it (held t n) (rw its-condition-is (and-intro (ltb a (A .count)) _ (lt→ltb a (A .count) (W .below)) (W .serves))) tt
+        (none-listed D (held t n) (newCondition D a it)
+        (λ k h s. let l : k < n = omega (arith, its-length) in W .unlisted k l (rw (new-is, listed-is k l) at s)))
+
+    -- there is no room for it
+    pub fills : n ≡ capacity → full (held t n) ≡ startPlan A goal capacity start
+    fills h =
+        sym (list-full D (A .count) capacity (λ c. subset c start) e a (held t n) (W .below) is-wanted (omega (arith, its-length))) ∙ I .same
+
+    module _ (other : n ≡ capacity → ⊥) where
+      free : n < capacity
+      free = omega (arith, I .holds .fits)
+
+      abbrev after : Columns
+      after = store t n new a e (d + 1)
+
+      pub holds-new : Holds capacity (n + 1) t₀ after
+      holds-new = holds-store (I .holds) free new a e (d + 1) (omega (arith, I .its-depth, I .holds .shallow e (I .inside), I .inside))
+
+      list-is : held t n ++ (newEntry D a e it ∷ []) ≡ held after (n + 1)
+      list-is =
+          rw (it-is, ← I .its-condition, ← W .made, ← I .its-depth, ← add-one d, add-one n)
+          (sym (entries-store (t .conditions) (t .actions) (t .parents) (t .depths) n new a e (d + 1)
+          (omega (arith, free, I .holds .conditions .roomy)) (omega (arith, free, I .holds .actions .roomy))
+          (omega (arith, free, I .holds .parents .roomy)) (omega (arith, free, I .holds .depths .roomy))))
+
+      -- it is part of the start
+      pub ends : T (subset new start) → covered (held after (n + 1)) ≡ startPlan A goal capacity start
+      ends s =
+          sym (list-ends D (A .count) capacity (λ c. subset c start) e a (held t n) (W .below) is-wanted (omega (arith, free, its-length))
+          (rw new-is s)
+          ∙ ap covered list-is)
+          ∙ I .same
+
+      -- it is not, and the list goes on
+      pub grows : T (not (subset new start)) → AtAction A goal start capacity count t₀ n₀ e c d after (n + 1) (a + 1)
+      grows s =
+          record {
+            counted = I .counted;
+            holds = holds-new;
+            grown = omega (arith, I .grown);
+            inside = omega (arith, I .inside);
+            its-condition = I .its-condition ∙ sym (getD-set-other (t .conditions) n e new 0 (omega (arith, I .inside)));
+            its-depth = I .its-depth ∙ sym (getD-set-other (t .depths) n e (d + 1) 0 (omega (arith, I .inside)));
+            tried = omega (arith, W .below);
+            same =
+                rw (add-one a, ← list-is)
+                (sym (list-grows D (A .count) capacity (λ c. subset c start) e a (held t n) (W .below) is-wanted (omega (arith, free, its-length))
+                (rw new-is s) (omega (arith, I .inside, its-length)))
+                ∙ I .same);
+          }
+
+-- ---- the search
+
+pub pass : {conditions : List ℕ} {n c k : ℕ} → AtListed conditions n c k → (k ≡ n → ⊥) → T (not (subset (getD conditions k 0) c))
+    → AtListed conditions n c (k + 1)
+pass {conditions} {n} {c} {k} S other t =
+    record {
+      inside = omega (arith, S .inside);
+      passed = below-more (λ (i : ℕ). T (subset (getD conditions i 0) c) → ⊥) k (S .passed) (T-not (subset (getD conditions k 0) c) t);
+    }
+
+-- a flag is not both
+pub clash : {b : Bool} → b ≡ true → b ≡ false → ⊥
+clash p q = let z : _≡_ {A = ℕ} 0 1 = cc in omega arith

@@ -1,0 +1,472 @@
+-- The loops run through the definition: at the head of each, what remains of it gives the plan (proofs/Loops.antt). So the way out by which
+-- the function returns is the outcome of the plan, and the tables hold its list.
+use mathlib.Core.Path.{_≡_, sym, _∙_}
+use mathlib.Core.Bool.{true, false, not}
+use mathlib.Core.Logic.{⊎-elim}
+use Prim.Native.Nat.{_+_, _-_, _<_}
+use native.Mathlib.Omega.{arith}
+use borrow.Author.Needs.{needs}
+use borrow.Author.Tests.{not-true, not-false}
+use lib.Dec.{T}
+use lib.ListN.{getD, length-set}
+use Rattle.base.specs.Bools.{holds, fails}
+use Rattle.masks.specs.Sets.{subset}
+use Rattle.planning.specs.Facts.{Actions}
+use Rattle.expander.specs.declared.Expanded.the-variants as X
+use Rattle.expander.specs.Expands.{actionsOf, Columns, columns, room}
+use Rattle.expander.proofs.Tables.{Holds, holds-none, holds-on, expands}
+use Rattle.expander.proofs.Loops.{AtEntry, AtAction, AtListed, Wanted, no-room, root-held, goal-met, first-entry, exhausts, enter, leave}
+use Rattle.expander.proofs.Loops.{skip-irrelevant, skip-listed, fills, holds-new, ends, grows, pass, clash}
+use Rattle.expander.proofs.expand.Statement.{statement}
+use Rattle.expander.proofs.expand.Tie as tie
+
+abbrev Inv-search : tie.InvT-search
+Inv-search needs adds deletes goal start conditions actions parents depths capacity count n e condition depth next a new k₀ k =
+    AtListed conditions n new k
+
+abbrev μ-search : tie.MeasureT-search
+μ-search needs adds deletes goal start conditions actions parents depths capacity count n e condition depth next a new k₀ k = n - k
+
+abbrev Inv-actions : tie.InvT-actions
+Inv-actions needs adds deletes goal start conditions₀ actions₀ parents₀ depths₀ capacity count n₀ e condition depth next₀ conditions actions
+    parents depths n next =
+    AtAction (actionsOf needs adds deletes) goal start capacity count (columns conditions₀ actions₀ parents₀ depths₀) n₀ e condition depth
+    (columns conditions actions parents depths) n next
+
+abbrev μ-actions : tie.MeasureT-actions
+μ-actions needs adds deletes goal start conditions₀ actions₀ parents₀ depths₀ capacity count n₀ e condition depth next₀ conditions actions
+    parents depths n next =
+    count - next
+
+abbrev Inv-entries : tie.InvT-entries
+Inv-entries needs adds deletes goal start conditions₀ actions₀ parents₀ depths₀ capacity count n₀ e₀ conditions actions parents depths n e =
+    AtEntry (actionsOf needs adds deletes) goal start capacity count (columns conditions₀ actions₀ parents₀ depths₀) n₀
+    (columns conditions actions parents depths) n e
+
+abbrev μ-entries : tie.MeasureT-entries
+μ-entries needs adds deletes goal start conditions₀ actions₀ parents₀ depths₀ capacity count n₀ e₀ conditions actions parents depths n e = capacity - e
+
+-- ---- the places that several answers look back at
+
+-- the function's entry, an entry of the list, an action at it, the search for what the action makes of it, and the end of the search
+abbrev Entered : Type 0
+Entered = tie.Start Inv-search μ-search Inv-actions μ-actions Inv-entries μ-entries
+
+abbrev AtEntries : Type 0
+AtEntries = tie.At-entries Inv-search μ-search Inv-actions μ-actions Inv-entries μ-entries
+
+abbrev AtActions : Type 0
+AtActions = tie.At-actions Inv-search μ-search Inv-actions μ-actions Inv-entries μ-entries
+
+abbrev AtSearch : Type 0
+AtSearch = tie.At-search Inv-search μ-search Inv-actions μ-actions Inv-entries μ-entries
+
+abbrev Searched : Type 0
+Searched = tie.Joined5 Inv-search μ-search Inv-actions μ-actions Inv-entries μ-entries
+
+abbrev start-of : AtEntries → Entered
+start-of c = c .before .before .before .before .before .before .before .before .before .before .before .before .before
+
+abbrev entry-of : AtActions → AtEntries
+entry-of c = c .before .before .before .before
+
+-- the turn of the loop over actions, and its test
+abbrev turn-of : AtSearch → tie.In-actions Inv-search μ-search Inv-actions μ-actions Inv-entries μ-entries
+turn-of c = c .before .before .before .before .before .before .before .before
+
+abbrev action-of : AtSearch → AtActions
+action-of c = turn-of c .before
+
+-- ---- what they know
+
+-- the actions, and the tables as they were lent
+abbrev given : Entered → Actions
+given c = actionsOf (c .args .needs .now) (c .args .adds .now) (c .args .deletes .now)
+
+abbrev lent : Entered → Columns
+lent c = columns (c .args .conditions .now) (c .args .actions .now) (c .args .parents .now) (c .args .depths .now)
+
+room-of : (c : AtEntries) → c .before .before .before .before .before .capacity-of .result ≡ room (lent (start-of c))
+room-of c = c .before .before .before .before .before .capacity-of .ensures
+
+-- the tables hold what was stored since then
+entry-held : (c : AtEntries) → Holds (c .before .before .before .before .before .capacity-of .result) (c .entries .n) (lent (start-of c))
+    (columns (c .entries .conditions) (c .entries .actions) (c .entries .parents) (c .entries .depths))
+entry-held c =
+    holds-on (root-held (start-of c .args .goal) (lent (start-of c)) (room-of c) (omega (arith, c .before .before .before .before .if1 .left)))
+    (c .entries .inv .holds) (c .entries .inv .grown)
+
+action-held : (c : AtActions) → Holds (entry-of c .before .before .before .before .before .capacity-of .result) (c .actions .n) (lent (start-of (entry-of c)))
+    (columns (c .actions .conditions) (c .actions .actions) (c .actions .parents) (c .actions .depths))
+action-held c = holds-on (entry-held (entry-of c)) (c .actions .inv .holds) (c .actions .inv .grown)
+
+-- the search passed every entry
+new-wanted : (c : Searched) → not (c .if5 .found) ≡ true
+    → let x = action-of (c .before) .actions in
+    let y = entry-of (action-of (c .before)) .entries in
+    Wanted (given (start-of (entry-of (action-of (c .before))))) (x .conditions) (x .n) (getD (y .conditions) (y .e) 0) (x .next)
+    (c .before .before .regress .result)
+new-wanted c t =
+    record {
+      below = omega (arith, action-of (c .before) .actions .inv .counted, turn-of (c .before) .actions-test .taken);
+      serves = holds _ (sym (c .before .before .before .before .before .before .is-relevant .ensures) ∙ c .before .before .before .before .before .if4 .taken);
+      made = c .before .before .regress .ensures;
+      unlisted = λ i h.
+          ⊎-elim (λ w. c .before .search .inv .passed i (omega (arith, w .0 .taken))) (λ w. absurd (clash (w .4) (not-true _ t))) (c .if5 .came);
+    }
+
+-- it stopped at an entry whose condition is a part of the new one
+part-listed : (c : Searched) → not (c .if5 .found) ≡ false
+    → let x = action-of (c .before) .actions in
+    (c .before .search .k < x .n) × T (subset (getD (x .conditions) (c .before .search .k) 0) (c .before .before .regress .result))
+part-listed c t =
+    ⊎-elim (λ w. absurd (clash (not-false _ t) (w .1)))
+    (λ w. (omega (arith, c .before .search .inv .inside, w .0 .left), holds _ (sym (w .2 .ensures) ∙ w .3 .taken))) (c .if5 .came)
+
+-- ---- the answers, in the order of the code
+
+capacity-of-requires : tie.Need-capacity-of-requires Inv-search μ-search Inv-actions μ-actions Inv-entries μ-entries
+capacity-of-requires c κs = tt
+
+returns : tie.Need-returns Inv-search μ-search Inv-actions μ-actions Inv-entries μ-entries
+returns c =
+    let s = c .before .before .before .before .before .before .before .before .before in
+    let e = c .before .capacity-of .ensures in
+    expands e (X.Full 0) (holds-none (lent s) e) (no-room _ _ _ (lent s) e (c .if1 .taken))
+
+slice-write-conditions : tie.Need-slice-write-conditions Inv-search μ-search Inv-actions μ-actions Inv-entries μ-entries
+slice-write-conditions c = search needs
+
+slice-write-actions : tie.Need-slice-write-actions Inv-search μ-search Inv-actions μ-actions Inv-entries μ-entries
+slice-write-actions c = search needs
+
+slice-write-parents : tie.Need-slice-write-parents Inv-search μ-search Inv-actions μ-actions Inv-entries μ-entries
+slice-write-parents c = search needs
+
+slice-write-depths : tie.Need-slice-write-depths Inv-search μ-search Inv-actions μ-actions Inv-entries μ-entries
+slice-write-depths c = search needs
+
+is-subset-requires : tie.Need-is-subset-requires Inv-search μ-search Inv-actions μ-actions Inv-entries μ-entries
+is-subset-requires c κs = tt
+
+same-length : tie.Need-same-length Inv-search μ-search Inv-actions μ-actions Inv-entries μ-entries
+same-length c = search needs
+
+same-length-2 : tie.Need-same-length-2 Inv-search μ-search Inv-actions μ-actions Inv-entries μ-entries
+same-length-2 c = search needs
+
+same-length-3 : tie.Need-same-length-3 Inv-search μ-search Inv-actions μ-actions Inv-entries μ-entries
+same-length-3 c = search needs
+
+same-length-4 : tie.Need-same-length-4 Inv-search μ-search Inv-actions μ-actions Inv-entries μ-entries
+same-length-4 c = search needs
+
+returns-2 : tie.Need-returns-2 Inv-search μ-search Inv-actions μ-actions Inv-entries μ-entries
+returns-2 c =
+    let s = c .before .before .before .before .before .before .before .before .before .before .before in
+    let e = c .before .before .before .capacity-of .ensures in
+    let some : 0 < c .before .before .before .capacity-of .result = omega (arith, c .before .before .if1 .left) in
+    expands e (X.Covered 1) (root-held _ (lent s) e some) (goal-met _ _ _ (lent s) e some (holds _ (sym (c .before .is-subset .ensures) ∙ c .if2 .taken)))
+
+count-of-requires : tie.Need-count-of-requires Inv-search μ-search Inv-actions μ-actions Inv-entries μ-entries
+count-of-requires c κs = tt
+
+entries-holds : tie.Need-entries-holds Inv-search μ-search Inv-actions μ-actions Inv-entries μ-entries
+entries-holds c =
+    let s = c .before .before .before .before .before .before .before .before .before .before .before .before in
+    first-entry _ _ _ (lent s) (c .before .before .before .before .capacity-of .ensures) (omega (arith, c .before .before .before .if1 .left))
+    (c .count-of .ensures) (fails _ (sym (c .before .before .is-subset .ensures) ∙ c .before .if2 .left))
+
+mul-condition : tie.Need-mul-condition Inv-search μ-search Inv-actions μ-actions Inv-entries μ-entries
+mul-condition c = search needs
+
+slice-read-condition : tie.Need-slice-read-condition Inv-search μ-search Inv-actions μ-actions Inv-entries μ-entries
+slice-read-condition c = search needs
+
+mul-depth : tie.Need-mul-depth Inv-search μ-search Inv-actions μ-actions Inv-entries μ-entries
+mul-depth c = search needs
+
+slice-read-depth : tie.Need-slice-read-depth Inv-search μ-search Inv-actions μ-actions Inv-entries μ-entries
+slice-read-depth c = search needs
+
+actions-holds : tie.Need-actions-holds Inv-search μ-search Inv-actions μ-actions Inv-entries μ-entries
+actions-holds c = enter (c .before .before .before .entries .inv) (c .before .before .if3 .left)
+
+add-next : tie.Need-add-next Inv-search μ-search Inv-actions μ-actions Inv-entries μ-entries
+add-next c = search needs
+
+mul-is-relevant : tie.Need-mul-is-relevant Inv-search μ-search Inv-actions μ-actions Inv-entries μ-entries
+mul-is-relevant c = search needs
+
+shared-slice-read-is-relevant : tie.Need-shared-slice-read-is-relevant Inv-search μ-search Inv-actions μ-actions Inv-entries μ-entries
+shared-slice-read-is-relevant c = search needs
+
+mul-is-relevant-2 : tie.Need-mul-is-relevant-2 Inv-search μ-search Inv-actions μ-actions Inv-entries μ-entries
+mul-is-relevant-2 c = search needs
+
+shared-slice-read-is-relevant-2 : tie.Need-shared-slice-read-is-relevant-2 Inv-search μ-search Inv-actions μ-actions Inv-entries μ-entries
+shared-slice-read-is-relevant-2 c = search needs
+
+is-relevant-requires : tie.Need-is-relevant-requires Inv-search μ-search Inv-actions μ-actions Inv-entries μ-entries
+is-relevant-requires c κs = tt
+
+mul-regress : tie.Need-mul-regress Inv-search μ-search Inv-actions μ-actions Inv-entries μ-entries
+mul-regress c = search needs
+
+shared-slice-read-regress : tie.Need-shared-slice-read-regress Inv-search μ-search Inv-actions μ-actions Inv-entries μ-entries
+shared-slice-read-regress c = search needs
+
+mul-regress-2 : tie.Need-mul-regress-2 Inv-search μ-search Inv-actions μ-actions Inv-entries μ-entries
+mul-regress-2 c = search needs
+
+shared-slice-read-regress-2 : tie.Need-shared-slice-read-regress-2 Inv-search μ-search Inv-actions μ-actions Inv-entries μ-entries
+shared-slice-read-regress-2 c = search needs
+
+regress-requires : tie.Need-regress-requires Inv-search μ-search Inv-actions μ-actions Inv-entries μ-entries
+regress-requires c κs = tt
+
+search-holds : tie.Need-search-holds Inv-search μ-search Inv-actions μ-actions Inv-entries μ-entries
+search-holds c = search needs
+
+mul-is-subset : tie.Need-mul-is-subset Inv-search μ-search Inv-actions μ-actions Inv-entries μ-entries
+mul-is-subset c = search needs
+
+slice-read-is-subset : tie.Need-slice-read-is-subset Inv-search μ-search Inv-actions μ-actions Inv-entries μ-entries
+slice-read-is-subset c =
+    let s = c .before .before in
+    omega (arith, s .search .inv .inside, c .before .if5 .left, action-of s .actions .inv .holds)
+
+is-subset-requires-2 : tie.Need-is-subset-requires-2 Inv-search μ-search Inv-actions μ-actions Inv-entries μ-entries
+is-subset-requires-2 c κs = tt
+
+add-k : tie.Need-add-k Inv-search μ-search Inv-actions μ-actions Inv-entries μ-entries
+add-k c = search needs
+
+search-less : tie.Need-search-less Inv-search μ-search Inv-actions μ-actions Inv-entries μ-entries
+search-less c = omega (arith, c .before .before .before .before .search .inv .inside, c .before .before .before .if5 .left)
+
+search-again : tie.Need-search-again Inv-search μ-search Inv-actions μ-actions Inv-entries μ-entries
+search-again c =
+    pass (c .before .before .before .before .search .inv) (c .before .before .before .if5 .left) (fails _ (sym (c .before .is-subset2 .ensures) ∙ c .if6 .left))
+
+mul-conditions : tie.Need-mul-conditions Inv-search μ-search Inv-actions μ-actions Inv-entries μ-entries
+mul-conditions c = search needs
+
+slice-write-conditions-2 : tie.Need-slice-write-conditions-2 Inv-search μ-search Inv-actions μ-actions Inv-entries μ-entries
+slice-write-conditions-2 c =
+    let H = action-of (c .before .before .before) .actions .inv .holds in
+    omega (arith, H .conditions .roomy, H .fits, c .if8 .left)
+
+cast-actions : tie.Need-cast-actions Inv-search μ-search Inv-actions μ-actions Inv-entries μ-entries
+cast-actions c = search needs
+
+slice-write-actions-2 : tie.Need-slice-write-actions-2 Inv-search μ-search Inv-actions μ-actions Inv-entries μ-entries
+slice-write-actions-2 c =
+    let H = action-of (c .before .before .before) .actions .inv .holds in
+    omega (arith, H .actions .roomy, H .fits, c .if8 .left)
+
+cast-parents : tie.Need-cast-parents Inv-search μ-search Inv-actions μ-actions Inv-entries μ-entries
+cast-parents c = search needs
+
+mul-parents : tie.Need-mul-parents Inv-search μ-search Inv-actions μ-actions Inv-entries μ-entries
+mul-parents c = search needs
+
+slice-write-parents-2 : tie.Need-slice-write-parents-2 Inv-search μ-search Inv-actions μ-actions Inv-entries μ-entries
+slice-write-parents-2 c =
+    let H = action-of (c .before .before .before) .actions .inv .holds in
+    omega (arith, H .parents .roomy, H .fits, c .if8 .left)
+
+add-depths : tie.Need-add-depths Inv-search μ-search Inv-actions μ-actions Inv-entries μ-entries
+add-depths c =
+    let J = action-of (c .before .before .before) .actions .inv in
+    omega (arith, J .its-depth, J .holds .shallow _ (J .inside), J .inside, J .holds .fits, J .holds .small)
+
+mul-depths : tie.Need-mul-depths Inv-search μ-search Inv-actions μ-actions Inv-entries μ-entries
+mul-depths c = search needs
+
+slice-write-depths-2 : tie.Need-slice-write-depths-2 Inv-search μ-search Inv-actions μ-actions Inv-entries μ-entries
+slice-write-depths-2 c =
+    let H = action-of (c .before .before .before) .actions .inv .holds in
+    omega (arith, H .depths .roomy, H .fits, c .if8 .left)
+
+add-n : tie.Need-add-n Inv-search μ-search Inv-actions μ-actions Inv-entries μ-entries
+add-n c = search needs
+
+is-subset-requires-3 : tie.Need-is-subset-requires-3 Inv-search μ-search Inv-actions μ-actions Inv-entries μ-entries
+is-subset-requires-3 c κs = tt
+
+actions-less : tie.Need-actions-less Inv-search μ-search Inv-actions μ-actions Inv-entries μ-entries
+actions-less c = search needs
+
+actions-again : tie.Need-actions-again Inv-search μ-search Inv-actions μ-actions Inv-entries μ-entries
+actions-again c =
+    let s = c .before .before .before .before in
+    grows (action-of (s .before) .actions .inv) (new-wanted s (c .before .before .before .if7 .taken)) (c .before .before .if8 .left)
+    (fails _ (sym (c .before .is-subset3 .ensures) ∙ c .if9 .left))
+
+actions-less-2 : tie.Need-actions-less-2 Inv-search μ-search Inv-actions μ-actions Inv-entries μ-entries
+actions-less-2 c = search needs
+
+actions-again-2 : tie.Need-actions-again-2 Inv-search μ-search Inv-actions μ-actions Inv-entries μ-entries
+actions-again-2 c =
+    let s = c .before .before in
+    let p = part-listed (c .before) (c .if7 .left) in
+    skip-listed (action-of s .actions .inv) (turn-of s .actions-test .taken) _ (s .before .regress .ensures) _ (p .0) (p .1)
+
+actions-less-3 : tie.Need-actions-less-3 Inv-search μ-search Inv-actions μ-actions Inv-entries μ-entries
+actions-less-3 c = search needs
+
+actions-again-3 : tie.Need-actions-again-3 Inv-search μ-search Inv-actions μ-actions Inv-entries μ-entries
+actions-again-3 c =
+    skip-irrelevant (c .before .before .before .before .before .actions .inv) (c .before .before .before .before .actions-test .taken)
+    (fails _ (sym (c .before .is-relevant .ensures) ∙ c .if4 .left))
+
+add-e : tie.Need-add-e Inv-search μ-search Inv-actions μ-actions Inv-entries μ-entries
+add-e c = search needs
+
+entries-less : tie.Need-entries-less Inv-search μ-search Inv-actions μ-actions Inv-entries μ-entries
+entries-less c =
+    let I = c .before .before .before .before .before .entries .inv in
+    omega (arith, I .inside, c .before .before .before .before .if3 .left, I .holds .fits)
+
+entries-again : tie.Need-entries-again Inv-search μ-search Inv-actions μ-actions Inv-entries μ-entries
+entries-again c =
+    leave (c .before .before .before .before .before .entries .inv) (c .before .before .before .before .if3 .left) (c .before .actions .inv) (c .actions-test .left)
+
+same-length-5 : tie.Need-same-length-5 Inv-search μ-search Inv-actions μ-actions Inv-entries μ-entries
+same-length-5 c = entry-held (c .before) .conditions .same-length
+
+same-length-6 : tie.Need-same-length-6 Inv-search μ-search Inv-actions μ-actions Inv-entries μ-entries
+same-length-6 c = entry-held (c .before) .actions .same-length
+
+same-length-7 : tie.Need-same-length-7 Inv-search μ-search Inv-actions μ-actions Inv-entries μ-entries
+same-length-7 c = entry-held (c .before) .parents .same-length
+
+same-length-8 : tie.Need-same-length-8 Inv-search μ-search Inv-actions μ-actions Inv-entries μ-entries
+same-length-8 c = entry-held (c .before) .depths .same-length
+
+returns-3 : tie.Need-returns-3 Inv-search μ-search Inv-actions μ-actions Inv-entries μ-entries
+returns-3 c = expands (room-of (c .before)) (X.Exhausted _) (entry-held (c .before)) (exhausts (c .before .entries .inv) (c .if3 .taken))
+
+same-length-9 : tie.Need-same-length-9 Inv-search μ-search Inv-actions μ-actions Inv-entries μ-entries
+same-length-9 c = action-held (action-of (c .before .before .before)) .conditions .same-length
+
+same-length-10 : tie.Need-same-length-10 Inv-search μ-search Inv-actions μ-actions Inv-entries μ-entries
+same-length-10 c = action-held (action-of (c .before .before .before)) .actions .same-length
+
+same-length-11 : tie.Need-same-length-11 Inv-search μ-search Inv-actions μ-actions Inv-entries μ-entries
+same-length-11 c = action-held (action-of (c .before .before .before)) .parents .same-length
+
+same-length-12 : tie.Need-same-length-12 Inv-search μ-search Inv-actions μ-actions Inv-entries μ-entries
+same-length-12 c = action-held (action-of (c .before .before .before)) .depths .same-length
+
+returns-4 : tie.Need-returns-4 Inv-search μ-search Inv-actions μ-actions Inv-entries μ-entries
+returns-4 c =
+    let x = action-of (c .before .before .before) in
+    expands (room-of (entry-of x)) (X.Full _) (action-held x)
+    (fills (x .actions .inv) (new-wanted (c .before .before) (c .before .if7 .taken)) (c .if8 .taken))
+
+same-length-13 : tie.Need-same-length-13 Inv-search μ-search Inv-actions μ-actions Inv-entries μ-entries
+same-length-13 c = simp length-set (action-held (action-of (c .before .before .before .before .before)) .conditions .same-length)
+
+same-length-14 : tie.Need-same-length-14 Inv-search μ-search Inv-actions μ-actions Inv-entries μ-entries
+same-length-14 c = simp length-set (action-held (action-of (c .before .before .before .before .before)) .actions .same-length)
+
+same-length-15 : tie.Need-same-length-15 Inv-search μ-search Inv-actions μ-actions Inv-entries μ-entries
+same-length-15 c = simp length-set (action-held (action-of (c .before .before .before .before .before)) .parents .same-length)
+
+same-length-16 : tie.Need-same-length-16 Inv-search μ-search Inv-actions μ-actions Inv-entries μ-entries
+same-length-16 c = simp length-set (action-held (action-of (c .before .before .before .before .before)) .depths .same-length)
+
+returns-5 : tie.Need-returns-5 Inv-search μ-search Inv-actions μ-actions Inv-entries μ-entries
+returns-5 c =
+    let x = action-of (c .before .before .before .before .before) in
+    let J = x .actions .inv in
+    let W = new-wanted (c .before .before .before .before) (c .before .before .before .if7 .taken) in
+    expands (room-of (entry-of x)) (X.Covered (x .actions .n + 1))
+    (holds-on (entry-held (entry-of x)) (holds-new J W (c .before .before .if8 .left)) (omega (arith, J .grown)))
+    (ends J W (c .before .before .if8 .left) (holds _ (sym (c .before .is-subset3 .ensures) ∙ c .if9 .taken)))
+
+pub expand-spec : {M : Type 1} → statement M
+expand-spec =
+    tie.close
+    (tie.spec
+    Inv-search
+    μ-search
+    Inv-actions
+    μ-actions
+    Inv-entries
+    μ-entries
+    capacity-of-requires
+    returns
+    slice-write-conditions
+    slice-write-actions
+    slice-write-parents
+    slice-write-depths
+    is-subset-requires
+    same-length
+    same-length-2
+    same-length-3
+    same-length-4
+    returns-2
+    count-of-requires
+    entries-holds
+    mul-condition
+    slice-read-condition
+    mul-depth
+    slice-read-depth
+    actions-holds
+    add-next
+    mul-is-relevant
+    shared-slice-read-is-relevant
+    mul-is-relevant-2
+    shared-slice-read-is-relevant-2
+    is-relevant-requires
+    mul-regress
+    shared-slice-read-regress
+    mul-regress-2
+    shared-slice-read-regress-2
+    regress-requires
+    search-holds
+    mul-is-subset
+    slice-read-is-subset
+    is-subset-requires-2
+    add-k
+    search-less
+    search-again
+    mul-conditions
+    slice-write-conditions-2
+    cast-actions
+    slice-write-actions-2
+    cast-parents
+    mul-parents
+    slice-write-parents-2
+    add-depths
+    mul-depths
+    slice-write-depths-2
+    add-n
+    is-subset-requires-3
+    actions-less
+    actions-again
+    actions-less-2
+    actions-again-2
+    actions-less-3
+    actions-again-3
+    add-e
+    entries-less
+    entries-again
+    same-length-5
+    same-length-6
+    same-length-7
+    same-length-8
+    returns-3
+    same-length-9
+    same-length-10
+    same-length-11
+    same-length-12
+    returns-4
+    same-length-13
+    same-length-14
+    same-length-15
+    same-length-16
+    returns-5)

@@ -1,0 +1,72 @@
+-- What an expansion answers and leaves in the lent list tables, by the definition of the plan: document 01, "Expansion".
+-- Definitions only.
+use mathlib.Core.Path.{_≡_}
+use mathlib.Core.List.{List, _++_, map}
+use Prim.Native.Nat.{ℕ, min}
+use lib.ListN.{length, getD, drop}
+use Rattle.planning.specs.Expansion.{Entry, Outcome, exhausted, covered, full, entries}
+use Rattle.planning.specs.Columns.{entriesOf}
+use Rattle.planning.specs.Facts.{Actions, startPlan}
+use Rattle.expander.specs.declared.Expanded.{Expanded}
+use Rattle.expander.specs.declared.Expanded.the-variants as X
+
+-- ---- the actions, in three rows of masks
+
+-- by the lengths of the rows: the shortest, and "0 to 128 JOBs numbered from 0"
+abbrev pub countOf : ℕ → ℕ → ℕ → ℕ
+countOf needs adds deletes = min (min (min needs adds) deletes) 128
+
+abbrev pub actionsOf : List ℕ → List ℕ → List ℕ → Actions
+actionsOf needs adds deletes =
+    record {
+      count = countOf (length needs) (length adds) (length deletes);
+      needs = λ a. getD needs a 0;
+      adds = λ a. getD adds a 0;
+      deletes = λ a. getD deletes a 0;
+    }
+
+-- ---- the lent list tables, as the four columns of a list of entries
+
+pub record Columns : Type 0 where
+  pub conditions : List ℕ
+  pub actions : List ℕ
+  pub parents : List ℕ
+  pub depths : List ℕ
+
+abbrev pub columns : List ℕ → List ℕ → List ℕ → List ℕ → Columns
+columns conditions actions parents depths = record { conditions = conditions; actions = actions; parents = parents; depths = depths }
+
+-- by the lengths of the tables: "Capacity is the shortest of the four lent list tables, and at most 4,096."
+abbrev pub capacityOf : ℕ → ℕ → ℕ → ℕ → ℕ
+capacityOf conditions actions parents depths = min (min (min conditions actions) (min parents depths)) 4096
+
+abbrev pub room : Columns → ℕ
+room t = capacityOf (length (t .conditions)) (length (t .actions)) (length (t .parents)) (length (t .depths))
+
+-- the first n entries that the tables hold
+abbrev pub held : Columns → ℕ → List (Entry ℕ)
+held t n = entriesOf (t .conditions) (t .actions) (t .parents) (t .depths) n
+
+-- a column with the list written to its front: past the list it is as it was
+abbrev pub over : (Entry ℕ → ℕ) → List (Entry ℕ) → List ℕ → List ℕ
+over field l xs = map field l ++ drop (length l) xs
+
+-- ---- the answer
+
+-- what an answer says, of the entries that the tables then hold
+abbrev pub outcomeOf : Expanded → Columns → Outcome ℕ
+outcomeOf (X.Exhausted n) t = exhausted (held t n)
+outcomeOf (X.Covered n) t = covered (held t n)
+outcomeOf (X.Full n) t = full (held t n)
+
+-- document 01's plan, with the capacity of the tables
+abbrev pub planIn : Columns → Actions → ℕ → ℕ → Outcome ℕ
+planIn t A goal start = startPlan A goal (room t) start
+
+-- The answer is the plan's, "the list tables hold the entries stored, all else untouched".
+pub record Expands (A : Actions) (goal start : ℕ) (before after : Columns) (r : Expanded) : Type 0 where
+  pub outcome : outcomeOf r after ≡ planIn before A goal start
+  pub conditions : after .conditions ≡ over (λ x. x .condition) (entries (planIn before A goal start)) (before .conditions)
+  pub actions : after .actions ≡ over (λ x. x .action) (entries (planIn before A goal start)) (before .actions)
+  pub parents : after .parents ≡ over (λ x. x .parent) (entries (planIn before A goal start)) (before .parents)
+  pub depths : after .depths ≡ over (λ x. x .depth) (entries (planIn before A goal start)) (before .depths)

@@ -1,0 +1,132 @@
+-- What a caller of the expansion learns: the tables hold the list of the plan, and the list has the properties that the theory of plans shows.
+-- Assumes nothing.
+use mathlib.Core.Path.{_≡_, refl, sym, ap, _∙_, subst}
+use mathlib.Core.List.{List}
+use Prim.Native.Nat.{ℕ, suc, _+_, _≤_, _<_, min}
+use native.Mathlib.Omega.{arith}
+use lib.Dec.{T}
+use lib.ListN.{length, getD}
+use Rattle.masks.specs.Sets.{subset, within}
+use Rattle.planning.specs.Domain.{Domain}
+use Rattle.planning.specs.Sequence.{Reaches}
+use Rattle.planning.specs.Listing.{Derived}
+use Rattle.planning.specs.Expansion.{Entry, Outcome, exhausted, covered, full, entries, entryIn, listing}
+use Rattle.planning.specs.Progress.{Sound}
+use Rattle.planning.specs.ExpansionLaws.{expand-sound}
+use Rattle.planning.specs.Demand.{FirstIn}
+use Rattle.planning.specs.DemandLaws.{planned-fits, planned-good, planned-action, planned-depth}
+use Rattle.planning.specs.Columns.{entryAt, entriesOf}
+use Rattle.planning.specs.ColumnLaws.{length-prefix, getD-prefix}
+use Rattle.planning.specs.Facts.{Actions, unitDomain, startPlan, WithinFacts}
+use Rattle.planning.specs.FactLaws.{fact-plannable, fact-start-first, fact-no-way, condition-within}
+use Rattle.expander.specs.declared.Expanded.{Expanded}
+use Rattle.expander.specs.declared.Expanded.the-variants as X
+use Rattle.expander.specs.Expands.{Columns, room, held, outcomeOf, planIn, Expands}
+
+-- how many entries are stored
+abbrev pub stored : Expanded → ℕ
+stored (X.Exhausted n) = n
+stored (X.Covered n) = n
+stored (X.Full n) = n
+
+pub outcome-entries : (r : Expanded) (t : Columns) → entries (outcomeOf r t) ≡ held t (stored r)
+outcome-entries (X.Exhausted n) t = refl
+outcome-entries (X.Covered n) t = refl
+outcome-entries (X.Full n) t = refl
+
+-- the answer of an outcome: with it the contract says outright what the result is
+abbrev pub answerOf : Outcome ℕ → Expanded
+answerOf (exhausted l) = X.Exhausted (length l)
+answerOf (covered l) = X.Covered (length l)
+answerOf (full l) = X.Full (length l)
+
+-- entry i, as the tables hold it
+abbrev pub entryOf : Columns → ℕ → Entry ℕ
+entryOf t i = entryAt (t .conditions) (t .actions) (t .parents) (t .depths) i
+
+held-length : (t : Columns) (n : ℕ) → length (held t n) ≡ n
+held-length t n = length-prefix (entryOf t) n
+
+outcome-answer : (r : Expanded) (t : Columns) → answerOf (outcomeOf r t) ≡ r
+outcome-answer (X.Exhausted n) t = ap X.Exhausted (held-length t n)
+outcome-answer (X.Covered n) t = ap X.Covered (held-length t n)
+outcome-answer (X.Full n) t = ap X.Full (held-length t n)
+
+module _ {A : Actions} {goal start : ℕ} {before after : Columns} {r : Expanded} (E : Expands A goal start before after r) where
+  abbrev list : List (Entry ℕ)
+  list = entries (planIn before A goal start)
+
+  abbrev D : Domain ℕ ℕ ℕ
+  D = unitDomain A goal
+
+  -- ---- the answer and the entries
+
+  pub answer-is : r ≡ answerOf (planIn before A goal start)
+  answer-is = sym (outcome-answer r after) ∙ ap answerOf (E .outcome)
+
+  -- the entries read back from the tables are the list of the plan
+  pub list-held : held after (stored r) ≡ list
+  list-held = sym (outcome-entries r after) ∙ ap entries (E .outcome)
+
+  pub list-length : length list ≡ stored r
+  list-length = ap length (sym list-held) ∙ held-length after (stored r)
+
+  pub entry-held : (i : ℕ) → i < stored r → entryOf after i ≡ entryIn D list i
+  entry-held i h = sym (getD-prefix (entryOf after) (stored r) i _ h) ∙ ap (λ (l : List (Entry ℕ)). entryIn D l i) list-held
+
+  -- ---- how many there are
+
+  pub stored-fits : stored r ≤ room before
+  stored-fits = omega (arith, planned-fits (fact-plannable A goal) (room before) (λ c. subset c start), list-length)
+
+  pub stored-small : stored r ≤ 4096
+  stored-small = omega (arith, stored-fits)
+
+  -- ---- what they are: the goal first, and each later entry comes from an earlier one
+
+  module _ (i : ℕ) (h : i < stored r) where
+    inside : i < length list
+    inside = omega (arith, list-length)
+
+    pub stored-depth : getD (after .depths) i 0 ≤ i
+    stored-depth =
+        let e = ap (λ x. x .depth) (entry-held i h) in
+        omega (arith, e, planned-depth (fact-plannable A goal) (room before) (λ c. subset c start) i inside)
+
+    -- the conditions are sets of the table's facts
+    pub stored-within : (f : ℕ) → WithinFacts f A goal → T (within f (getD (after .conditions) i 0))
+    stored-within f W = rw (ap (λ x. x .condition) (entry-held i h)) (condition-within A goal (room before) (λ c. subset c start) f W i inside)
+
+    module _ (later : 0 < i) where
+      pub stored-derived : Derived D (listing D list) i
+      stored-derived = planned-good (fact-plannable A goal) (room before) (λ c. subset c start) (omega (arith, inside)) .derived i later inside
+
+      pub stored-action : getD (after .actions) i 0 < A .count
+      stored-action =
+          rw (ap (λ x. x .action) (entry-held i h)) (planned-action (fact-plannable A goal) (room before) (λ c. subset c start) i later inside)
+
+      pub stored-parent : getD (after .parents) i 0 < i
+      stored-parent = rw (ap (λ x. x .parent) (entry-held i h)) (stored-derived .parent-before)
+
+-- ---- what each answer says
+
+module _ {A : Actions} {goal start : ℕ} {before after : Columns} {n : ℕ} where
+  -- the last entry is the first one that the start meets
+  pub covered-first : Expands A goal start before after (X.Covered n) → (i : ℕ) × (n ≡ suc i) × FirstIn (unitDomain A goal) (held after n) start i
+  covered-first E =
+      let f = fact-start-first A goal (room before) start (held after n) (sym (E .outcome)) in
+      (f .0, omega (arith, f .1, held-length after n), f .2)
+
+  -- "No way": no sequence of actions leads from the start to the goal
+  pub exhausted-no-way : Expands A goal start before after (X.Exhausted n) → (w : List ℕ) → Reaches (unitDomain A goal) start w → ⊥
+  exhausted-no-way E = fact-no-way A goal (room before) start (held after n) (sym (E .outcome))
+
+  -- "List full": there are as many entries as the capacity
+  pub full-capacity : Expands A goal start before after (X.Full n) → n ≡ room before
+  full-capacity E =
+      let P = fact-plannable A goal in
+      let known : Sound (unitDomain A goal) (room before) (λ c. subset c start) (entryIn (unitDomain A goal) (held after n)) (full (held after n)) =
+      subst (λ (o : Outcome ℕ). Sound (unitDomain A goal) (room before) (λ c. subset c start) (entryIn (unitDomain A goal) (entries o)) o)
+      (sym (E .outcome))
+      (expand-sound (unitDomain A goal) (A .count) (room before) (λ c. subset c start) (P .unit-cost) (P .laws .weaker-refl) (P .below-count)) in
+      omega (arith, known .size, held-length after n)
