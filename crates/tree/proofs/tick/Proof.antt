@@ -1,0 +1,40 @@
+-- `tree::tick` meets its contract. The table is read first; that a settled answer stands for every completion follows from the definition.
+-- Assumes nothing.
+use Rattle.tree.specs.Promises.{answers}
+use Rattle.tree.specs.TickBytesLaws.{bytes-refused, bytes-checked}
+use Rattle.table.specs.Read.{answerOf}
+use mathlib.Core.Path.{sym, ap, _∙_}
+use borrow.Author.Needs.{needs}
+use Rattle.tree.proofs.tick.Statement.{statement}
+use Rattle.tree.proofs.tick.Tie as tie
+
+read-table-requires : tie.Need-read-table-requires
+read-table-requires c κs = search needs
+
+enum-known-x : tie.Need-enum-known-x
+enum-known-x c = search needs
+
+enum-known-header : tie.Need-enum-known-header
+enum-known-header c = search needs
+
+tick-checked-requires : tie.Need-tick-checked-requires
+tick-checked-requires c κs = search needs
+
+returns : tie.Need-returns
+returns c =
+    answers _ _ _ _ (bytes-refused _ _ _ _ _ (ap answerOf (sym (c .before .x .given .1)) ∙ c .before .before .before .read-table .ensures))
+
+returns-2 : tie.Need-returns-2
+returns-2 c =
+    answers _ _ _ _ (c .tick-checked .ensures ∙ bytes-checked _ _ _ _ (ap answerOf (sym (c .before .before .header .given .1)) ∙ c .before .before .before .before .read-table .ensures))
+
+pub tick-spec : {M : Type 1} → statement M
+tick-spec =
+    tie.close
+    (tie.spec
+    read-table-requires
+    enum-known-x
+    enum-known-header
+    tick-checked-requires
+    returns
+    returns-2)

@@ -1,0 +1,11 @@
+pub mod Tree
+pub mod ReadTree
+pub mod Tick
+pub mod TickLaws
+pub mod TickBytes
+pub mod TickBytesLaws
+pub mod Walk
+pub mod ReadLaws
+pub mod WalkLaws
+pub mod WalkSteps
+pub mod Promises

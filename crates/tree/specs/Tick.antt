@@ -1,0 +1,63 @@
+-- The tick of a tree on a reading: document 01, "Ticking".
+-- Assumes nothing.
+use Prim.Native.Nat.{ℕ}
+use mathlib.Core.Bool.{Bool, true, false}
+use mathlib.Core.List.{List, [], _∷_}
+use lib.Bits.{bitAnd}
+use lib.ListN.{getD}
+use Rattle.base.specs.Bools.{if_then_else_}
+use Rattle.masks.specs.Sets.{subset, intersects, union}
+use Rattle.reading.specs.declared.Reading.{Reading}
+use Rattle.tree.specs.declared.Kind.{Kind}
+use Rattle.tree.specs.declared.Kind.the-variants.{Fallback, Sequence}
+use Rattle.tree.specs.declared.Status.{Status}
+use Rattle.tree.specs.declared.Status.the-variants.{Success, Failure, Running, Unsettled}
+use Rattle.tree.specs.Tree.{Tree, Row, condition, action, node, one, more}
+
+-- "A condition fails if one of its facts is read and absent; otherwise it is unsettled, with the mask of its unread facts, if it has any; otherwise
+-- it succeeds."
+unfoldable pub judged : Reading → ℕ → Status
+judged r mask =
+    if subset mask (union (r .held) (r .unread))
+    then (if intersects mask (r .unread) then Unsettled (bitAnd mask (r .unread)) else Success)
+    else Failure
+
+-- "Whether to go on is read from two rows of four, by node and by Success, Failure, Running, Unsettled."
+
+abbrev pub kindIndex : Kind → ℕ
+kindIndex Fallback = 0
+kindIndex Sequence = 1
+
+abbrev pub statusIndex : Status → ℕ
+statusIndex Success = 0
+statusIndex Failure = 1
+statusIndex (Running job) = 2
+statusIndex (Unsettled mask) = 3
+
+abbrev pub goesOn : List (List Bool) → Kind → Status → Bool
+goesOn rows kind answer = getD (getD rows (kindIndex kind) []) (statusIndex answer) false
+
+-- "A sequence .. goes on after Success; a fallback goes on after Failure"
+abbrev pub continueTable : List (List Bool)
+continueTable = (false ∷ true ∷ false ∷ false ∷ []) ∷ (true ∷ false ∷ false ∷ false ∷ []) ∷ []
+
+-- the answer, and the offset of the leaf that decided it
+pub record Verdict : Type 0 where
+  pub answer : Status
+  pub leaf : ℕ
+
+-- A row is ticked "from the left .. ; the last child's answer stands if all were passed".
+module _ (rows : List (List Bool)) (r : Reading) where
+  unfoldable mutual
+    pub tickBy : Tree → Verdict
+    tickBy (condition mask at) = record { answer = judged r mask; leaf = at }
+    -- "A job leaf answers Running with its number."
+    tickBy (action job at) = record { answer = Running job; leaf = at }
+    tickBy (node kind row) = tickRow row kind
+
+    pub tickRow : Row → Kind → Verdict
+    tickRow (one t) kind = tickBy t
+    tickRow (more t row) kind = let rest = tickRow row kind in if goesOn rows kind (tickBy t .answer) then rest else tickBy t
+
+abbrev pub tickTree : Reading → Tree → Verdict
+tickTree = tickBy continueTable
