@@ -1,0 +1,32 @@
+-- Each mask is put together as its definition is.
+-- Assumes nothing.
+use borrow.Author.Needs.{needs}
+use mathlib.Core.Path.{_≡_, ap, _∙_}
+use Prim.Native.Nat.{ℕ}
+use Rattle.masks.specs.Sets.{difference}
+use Rattle.masks.specs.Effects.{applied}
+use Rattle.reading.specs.declared.Reading.{Reading}
+use Rattle.card.specs.Card.{finished}
+use Rattle.card.proofs.finish.Statement.{statement}
+use Rattle.card.proofs.finish.Tie as tie
+
+join-requires : tie.Need-join-requires
+join-requires c κs = search needs
+
+without-requires : tie.Need-without-requires
+without-requires c κs = search needs
+
+without-requires-2 : tie.Need-without-requires-2
+without-requires-2 c κs = search needs
+
+without-requires-3 : tie.Need-without-requires-3
+without-requires-3 c κs = search needs
+
+returns : tie.Need-returns
+unfolding finished applied
+returns c =
+    let d = c .before .before .before .before .args .job .deletes in
+    rw (c .before .before .without .ensures, c .before .before .before .join .ensures, c .without3 .ensures, c .before .without2 .ensures)
+
+pub finish-spec : {M : Type 1} → statement M
+finish-spec = tie.close (tie.spec join-requires without-requires without-requires-2 without-requires-3 returns)

@@ -1,0 +1,4 @@
+pub mod Card
+pub mod CardLaws
+pub mod Reports
+pub mod Values

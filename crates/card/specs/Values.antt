@@ -1,0 +1,53 @@
+-- Cards of document 01's trailer, computed from the definitions.
+-- Assumes nothing.
+use Prim.Native.Nat.{ℕ}
+use mathlib.Core.Path.{_≡_, refl}
+use mathlib.Core.List.{List, [], _∷_, map}
+use lib.IntN.{ℤ, pos, negsuc}
+use Rattle.masks.specs.Sets.{subset, intersects, union, difference, within}
+use Rattle.masks.specs.Effects.{applied}
+use Rattle.refusal.specs.Checked.{accepted, refused}
+use Rattle.table.specs.declared.Job.{Job}
+use Rattle.minutes.specs.Minutes.{nearest, minutesOf}
+use Rattle.card.specs.declared.Card.{Card}
+use Rattle.card.specs.Card.{newCard, applicable, finished, withReport, exhausted, judged, latenessOf}
+
+abbrev card : ℕ → ℕ → ℕ → ℕ → ℕ → Card
+card h u n t p = record { held = h; unread = u; reports = n; taken = t; planned = p }
+
+-- jobs 1 uncouple, 3 measure loaded and 4 seal
+abbrev uncouple : Job
+uncouple = record { needs = 0x02; adds = 0x01; deletes = 0x02; seconds = 240 }
+
+abbrev measure : Job
+measure = record { needs = 0x02; adds = 0x08; deletes = 0x00; seconds = 600 }
+
+abbrev seal : Job
+seal = record { needs = 0x0c; adds = 0x10; deletes = 0x00; seconds = 150 }
+
+-- a new card with the trailer on and fact 3 unread; measured in 630 seconds: half a minute late is a minute; uncoupled in 200: on time
+pub two-reports : judged measure 630 (newCard (record { held = 0x02; unread = 0x08 })) ≡ accepted (card 0x0a 0 1 630 600)
+unfolding judged applicable exhausted withReport finished applied subset union difference
+two-reports = refl
+
+pub then-uncoupled : judged uncouple 200 (card 0x0a 0 1 630 600) ≡ accepted (card 0x09 0 2 830 840)
+unfolding judged applicable exhausted withReport finished applied subset union difference
+then-uncoupled = refl
+
+-- 17 comes before 18; 18 by the count, and by each sum at its bound and one past it
+pub stops : map (judged measure 1) (card 0x00 0x02 65535 0 0 ∷ card 0x02 0 65535 0 0 ∷ card 0x02 0 1 65536 0 ∷ card 0x02 0 1 0 65536 ∷ card 0x02 0 0 1 0 ∷ [])
+    ≡ refused 17 0 ∷ refused 18 0 ∷ refused 18 0 ∷ refused 18 0 ∷ refused 18 0 ∷ []
+unfolding judged applicable exhausted withReport finished applied subset union difference
+stops = refl
+
+pub at-the-bounds : map (judged seal 65535) (card 0x0c 0 1 65535 65535 ∷ card 0x0c 0 65534 4294770690 4294770690 ∷ [])
+    ≡ accepted (card 0x1c 0 2 131070 65685) ∷ accepted (card 0x1c 0 65535 4294836225 4294770840) ∷ []
+unfolding judged applicable exhausted withReport finished applied subset union difference
+at-the-bounds = refl
+
+-- half a minute late and early, and the ends
+pub lates : map latenessOf
+    (card 0 0 1 630 600 ∷ card 0 0 2 830 840 ∷ card 0 0 1 570 600 ∷ card 0 0 1 571 600 ∷ card 0 0 0 0 4294967295 ∷ card 0 0 0 4294967295 0 ∷ [])
+    ≡ pos 1 ∷ pos 0 ∷ negsuc 0 ∷ pos 0 ∷ negsuc 71582787 ∷ pos 71582788 ∷ []
+unfolding latenessOf minutesOf nearest
+lates = refl
