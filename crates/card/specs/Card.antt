@@ -80,6 +80,7 @@ exhausted c = eqb (c .reports) maxReports || (ltb (maxTaken * c .reports) (c .ta
 unfoldable pub tableFor : List ℕ → Reading → Checked Table
 tableFor table r = andThen (readTable table) λ t. if sound (t .facts) r then accepted t else refused 8 0
 
+-- "A new one has zero counts": a card that is in use is replaced whole
 unfoldable pub opened : List ℕ → Reading → Checked Card
 opened table r = andThen (tableFor table r) λ t. accepted (newCard r)
 
@@ -88,7 +89,7 @@ opened table r = andThen (tableFor table r) λ t. accepted (newCard r)
 unfoldable pub outsideRead : List ℕ → Reading → Card → Checked Card
 outsideRead table r c = andThen (tableFor table r) λ t. accepted (withMasks r c)
 
--- 17: "A need of the reported job is unread or absent."
+-- 17: "A need of the reported job is unread or absent." Then 18, of the card before the report.
 unfoldable pub judged : Job → ℕ → Card → Checked Card
 judged j taken c =
     if applicable j (masksOf c) then (if exhausted c then refused 18 0 else accepted (withReport j taken c)) else refused 17 0

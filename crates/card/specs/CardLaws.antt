@@ -1,6 +1,6 @@
 -- The job card's definitions, way by way: what each test leads to. Equations are turned so that a function's answers chain with them.
 -- Assumes nothing.
-use Prim.Native.Nat.{ℕ, _+_, _*_, _≤_, _<_}
+use Prim.Native.Nat.{ℕ, _*_, _≤_, _<_}
 use native.Mathlib.Omega.{arith}
 use mathlib.Core.Path.{_≡_, refl, sym, ap, _∙_}
 use mathlib.Core.Bool.{Bool, true, false, _||_}
@@ -10,7 +10,7 @@ use lib.Dec.{eqb, ltb}
 use lib.ListN.{length, getD}
 use Rattle.base.specs.Bools.{if_then_else_}
 use Rattle.refusal.specs.declared.Refusal.{Refusal}
-use Rattle.refusal.specs.Checked.{Checked, accepted, refused, refusedBy, andThen}
+use Rattle.refusal.specs.Checked.{Checked, accepted, refused, refusedBy}
 use Rattle.refusal.specs.CheckedLaws.{accepted-then, accepted-if, accepted-same}
 use Rattle.reading.specs.declared.Reading.{Reading}
 use Rattle.reading.specs.Reading.{sound}
@@ -19,9 +19,8 @@ use Rattle.table.specs.Table.{Table, noJob}
 use Rattle.table.specs.Read.{readTable, jobsOf, namedJob}
 use Rattle.card.specs.declared.Card.{Card}
 use Rattle.card.specs.declared.JobReport.{JobReport}
-use Rattle.card.specs.declared.Outcome.{Outcome}
 use Rattle.card.specs.declared.Outcome.the-variants.{Done, Refused}
-use Rattle.card.specs.Card.{masksOf, newCard, withMasks, applicable, withReport, maxReports, maxTaken, maxListed, exhausted, tableFor, opened, outsideRead, judged, reported, outcomeOf, Updated}
+use Rattle.card.specs.Card.{masksOf, newCard, withMasks, applicable, withReport, maxReports, maxTaken, maxListed, exhausted, tableFor, opened, outsideRead, judged, reported, Updated}
 
 -- ---- the two ways that a call ends
 
@@ -101,9 +100,9 @@ module _ (c : Card) where
       or-false true b e = absurd (let z : _≡_ {A = ℕ} 0 1 = cc in omega arith)
       or-false false b e = (refl, e)
 
-  pub no-room : (c .reports ≡ maxReports → ⊥) → Bounded c → exhausted c ≡ false
+  pub not-exhausted : (c .reports ≡ maxReports → ⊥) → Bounded c → exhausted c ≡ false
   unfolding exhausted
-  no-room n b = rw (ne-eqb (c .reports) maxReports n, le-ltb _ _ (b .taken-bounded), le-ltb _ _ (b .planned-bounded))
+  not-exhausted n b = rw (ne-eqb (c .reports) maxReports n, le-ltb _ _ (b .taken-bounded), le-ltb _ _ (b .planned-bounded))
 
 -- ---- a report
 

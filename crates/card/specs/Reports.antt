@@ -1,9 +1,9 @@
 -- What reports make of a card: its masks stay sound and its sums within 18's bound, and on a fully read card a report is a finished job.
 -- Assumes nothing.
-use Prim.Native.Nat.{ℕ, zero, suc, _+_, _*_, _-_, _^_, _≤_, _<_, max}
+use Prim.Native.Nat.{ℕ, zero, suc, _-_, _^_, _≤_, _<_, max}
 use native.Mathlib.Omega.{arith}
 use mathlib.Core.Path.{_≡_, refl, sym, ap, _∙_}
-use mathlib.Core.Bool.{Bool, true, false, not, _&&_, _||_}
+use mathlib.Core.Bool.{Bool, true, false, not, _||_}
 use mathlib.Core.List.{List}
 use borrow.Author.Tests.{ltb-true}
 use lib.Dec.{T, T-not, ltb}
@@ -22,12 +22,12 @@ use Rattle.reading.specs.ReadingLaws.{sound-held, sound-unread, sound-apart}
 use Rattle.table.specs.declared.Job.{Job}
 use Rattle.table.specs.Table.{Table, noJob}
 use Rattle.table.specs.Read.{readTable, namedJob}
-use Rattle.table.specs.Sound.{SoundJob, Sound, Storable}
+use Rattle.table.specs.Sound.{SoundJob}
 use Rattle.table.specs.RoundTrip.{read-storable, read-sound}
 use Rattle.card.specs.declared.Card.{Card}
 use Rattle.card.specs.declared.JobReport.{JobReport}
 use Rattle.card.specs.Card.{masksOf, newCard, withMasks, applicable, finished, withReport, maxReports, maxTaken, maxListed, exhausted, tableFor, outsideRead, judged, reported, answer}
-use Rattle.card.specs.CardLaws.{for-told, for-jobs, judged-missing, report-job, Bounded, room, no-room}
+use Rattle.card.specs.CardLaws.{for-told, for-jobs, judged-missing, report-job, Bounded, room, not-exhausted}
 
 -- ---- the effect of a report on both masks
 
@@ -137,7 +137,7 @@ with-report-bounded j taken c h k b = record { taken-bounded = omega arith; plan
 
 -- a new card takes a report
 pub new-takes : (r : Reading) → exhausted (newCard r) ≡ false
-new-takes r = no-room (newCard r) (λ e. omega arith) (new-bounded r)
+new-takes r = not-exhausted (newCard r) (λ e. omega arith) (new-bounded r)
 
 -- ---- a report that was accepted
 
@@ -223,7 +223,7 @@ module _ (s : List ℕ) (x : JobReport) (c : Card) (t : Table) (e : accepted t �
   -- Where the sums are bounded and fewer than 65,535 reports were made, no report is 18.
   pub report-room : Bounded c → (c .reports ≡ maxReports → ⊥) → reported s x c ≡ refused 18 0 → ⊥
   unfolding reported namedJob judged
-  report-room b n r = by-job (ltb (x .job) (length (t .jobs))) (rw (← e, no-room c n b) at r)
+  report-room b n r = by-job (ltb (x .job) (length (t .jobs))) (rw (← e, not-exhausted c n b) at r)
     where
       by-needs : (a : Bool) (d : Card) → (if a then accepted d else refused 17 0) ≡ refused 18 0 → ⊥
       by-needs true d q = not-both (sym q)

@@ -2,9 +2,9 @@
 -- Assumes nothing.
 use Prim.Native.Nat.{ℕ}
 use mathlib.Core.Path.{_≡_, refl}
-use mathlib.Core.List.{List, [], _∷_, map}
-use lib.IntN.{ℤ, pos, negsuc}
-use Rattle.masks.specs.Sets.{subset, intersects, union, difference, within}
+use mathlib.Core.List.{[], _∷_, map}
+use lib.IntN.{pos, negsuc}
+use Rattle.masks.specs.Sets.{subset, union, difference}
 use Rattle.masks.specs.Effects.{applied}
 use Rattle.refusal.specs.Checked.{accepted, refused}
 use Rattle.table.specs.declared.Job.{Job}

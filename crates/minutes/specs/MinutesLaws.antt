@@ -8,7 +8,6 @@ use mathlib.Core.List.{[], _∷_, map}
 use borrow.Author.Tests.{leb-true, leb-false}
 use lib.Dec.{leb}
 use lib.IntN.{ℤ, pos, negsuc, negℤ, negℤ-negℤ}
-use Rattle.base.specs.Bools.{if_then_else_}
 use Rattle.minutes.specs.Minutes.{nearest, minutesOf}
 
 -- ---- the two ways through the rule
@@ -22,7 +21,7 @@ module _ (n : ℕ) where
   unfolding nearest
   nearest-down e = rw e
 
--- "nearest, half away from zero": no whole number of minutes but this one is within half a minute, or half a minute above
+-- "nearest, half away from zero": at most half a minute above the seconds, and less than half a minute below them; one number is that
 pub record Nearest (n minutes : ℕ) : Type 0 where
   pub above : minutes * 60 ≤ n + 30
   pub below : n < minutes * 60 + 30

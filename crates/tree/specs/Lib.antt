@@ -9,3 +9,4 @@ pub mod ReadLaws
 pub mod WalkLaws
 pub mod WalkSteps
 pub mod Promises
+pub mod Cases

@@ -1,11 +1,7 @@
 -- Each mask is put together as its definition is.
 -- Assumes nothing.
 use borrow.Author.Needs.{needs}
-use mathlib.Core.Path.{_≡_, ap, _∙_}
-use Prim.Native.Nat.{ℕ}
-use Rattle.masks.specs.Sets.{difference}
 use Rattle.masks.specs.Effects.{applied}
-use Rattle.reading.specs.declared.Reading.{Reading}
 use Rattle.card.specs.Card.{finished}
 use Rattle.card.proofs.finish.Statement.{statement}
 use Rattle.card.proofs.finish.Tie as tie
@@ -25,7 +21,6 @@ without-requires-3 c κs = search needs
 returns : tie.Need-returns
 unfolding finished applied
 returns c =
-    let d = c .before .before .before .before .args .job .deletes in
     rw (c .before .before .without .ensures, c .before .before .before .join .ensures, c .without3 .ensures, c .before .without2 .ensures)
 
 pub finish-spec : {M : Type 1} → statement M

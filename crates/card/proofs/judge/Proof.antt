@@ -1,9 +1,9 @@
 -- 17, then 18, then the card with one more report.
 -- Assumes nothing.
 use borrow.Author.Needs.{needs}
-use mathlib.Core.Path.{_≡_, sym, ap, _∙_}
+use mathlib.Core.Path.{sym, ap, _∙_}
 use borrow.Author.Tests.{not-true, not-false}
-use Rattle.card.specs.Card.{applicable, Updated}
+use Rattle.card.specs.Card.{applicable}
 use Rattle.card.specs.CardLaws.{updated-kept, updated-done, judged-missing, judged-exhausted, judged-done}
 use Rattle.card.proofs.judge.Statement.{statement}
 use Rattle.card.proofs.judge.Tie as tie

@@ -1,7 +1,7 @@
 -- After the checks of the table and the reading nothing is left to judge.
 -- Assumes nothing.
 use borrow.Author.Needs.{needs}
-use mathlib.Core.Path.{_≡_, sym, ap, _∙_}
+use mathlib.Core.Path.{sym, ap, _∙_}
 use Rattle.table.specs.Read.{answerOf}
 use Rattle.table.specs.ReadLaws.{headed-refused, headed-sound}
 use Rattle.card.specs.Card.{tableFor}

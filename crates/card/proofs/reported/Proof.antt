@@ -2,11 +2,11 @@
 -- Assumes nothing.
 use borrow.Author.Needs.{needs}
 use native.Mathlib.Omega.{arith}
-use mathlib.Core.Path.{_≡_, sym, ap, _∙_}
-use Rattle.table.specs.Read.{readTable, jobsOf, answerOf}
+use mathlib.Core.Path.{sym, ap, _∙_}
+use Rattle.table.specs.Read.{answerOf}
 use Rattle.table.specs.ReadLaws.{headed-refused, headed-sound}
 use Rattle.card.specs.Card.{tableFor}
-use Rattle.card.specs.CardLaws.{updated-kept, updated-done, for-jobs, report-refused, report-no-job, report-job}
+use Rattle.card.specs.CardLaws.{updated-kept, for-jobs, report-refused, report-no-job, report-job}
 use Rattle.card.proofs.reported.Statement.{statement}
 use Rattle.card.proofs.reported.Tie as tie
 

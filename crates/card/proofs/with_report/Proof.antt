@@ -2,8 +2,7 @@
 -- Assumes nothing.
 use borrow.Author.Needs.{needs}
 use native.Mathlib.Omega.{arith}
-use mathlib.Core.Path.{_≡_, ap, _∙_}
-use Rattle.card.specs.Card.{finished, withReport}
+use Rattle.card.specs.Card.{withReport}
 use Rattle.card.specs.CardLaws.{room}
 use Rattle.card.proofs.with_report.Statement.{statement}
 use Rattle.card.proofs.with_report.Tie as tie
