@@ -45,6 +45,10 @@ pub sets-append : (l : List ℕ) (at : ℕ) (xs ys : List ℕ) → sets l at (xs
 sets-append l at [] ys = rw add-zero
 sets-append l at (x ∷ xs) ys = sets-append (set l at x) (suc at) xs ys ∙ ap (λ (k : ℕ). sets (sets (set l at x) (suc at) xs) k ys) (omega arith)
 
+-- one run of stores after another
+pub sets-after : (l xs ys : List ℕ) (at next : ℕ) → at + length xs ≡ next → sets (sets l at xs) next ys ≡ sets l at (xs ++ ys)
+sets-after l xs ys at next e = ap (λ (k : ℕ). sets (sets l at xs) k ys) (sym e) ∙ sym (sets-append l at xs ys)
+
 pub to-mod : (n v : ℕ) → toBytes n (v % 256 ^ n) ≡ toBytes n v
 unfolding toBytes
 to-mod zero v = refl

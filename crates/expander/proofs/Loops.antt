@@ -4,7 +4,7 @@
 use mathlib.Core.Path.{_≡_, refl, sym, ap, _∙_}
 use mathlib.Core.Bool.{Bool, true, false, not, _&&_}
 use mathlib.Core.List.{List, [], _∷_, _++_}
-use Prim.Native.Nat.{ℕ, _+_, _≤_, _<_, min}
+use Prim.Native.Nat.{ℕ, _+_, _≤_, _<_}
 use native.Mathlib.Omega.{arith}
 use native.Mathlib.Numerals.{add-one}
 use borrow.Author.Count.{below-more}
@@ -15,17 +15,24 @@ use Rattle.base.specs.Bools.{and-intro, and-right}
 use Rattle.masks.specs.Sets.{subset}
 use Rattle.masks.specs.Effects.{relevant, regressed}
 use Rattle.planning.specs.Domain.{Domain}
-use Rattle.planning.specs.Expansion.{Entry, Outcome, exhausted, covered, full, root, entryIn, newCondition, newEntry, wanted, remainingFrom, remainingAt}
+use Rattle.planning.specs.Expansion.{Entry, exhausted, covered, full, root, entryIn, newCondition, newEntry, wanted, remainingFrom, remainingAt}
 use Rattle.planning.specs.ExpansionSteps.{start-full, start-covered, start-going, enter-entry, leave-entry, last-entry, skip-action, list-full, list-ends}
 use Rattle.planning.specs.ExpansionSteps.{list-grows}
 use Rattle.planning.specs.SearchLaws.{none-listed, wanted-intro, unwanted-irrelevant, unwanted-listed}
 use Rattle.planning.specs.ColumnLaws.{length-prefix, getD-prefix, entries-store}
 use Rattle.planning.specs.Facts.{Actions, unitDomain, startPlan}
-use Rattle.expander.specs.Expands.{Columns, room, held}
-use Rattle.expander.specs.ExpandsLaws.{entryOf}
+use Rattle.expander.specs.Expands.{actionsOf, Columns, room, held}
+use Rattle.expander.specs.ExpandsLaws.{count-needs, count-adds, count-deletes, count-most, entryOf}
 use Rattle.expander.proofs.Tables.{Holds, store, holds-none, holds-store, holds-self, holds-on}
 
 -- ---- what holds at the head of each loop
+
+-- The code counts no action past the end of a row, and no more than a byte can number.
+pub record InRows (needs adds deletes : List ℕ) (count : ℕ) : Type 0 where
+  pub in-needs : count ≤ length needs
+  pub in-adds : count ≤ length adds
+  pub in-deletes : count ≤ length deletes
+  pub few : count ≤ 128
 
 -- Where the loop began, the tables were t₀ and held n₀ entries; now they are t and hold n, and those below e are expanded.
 pub record AtEntry (A : Actions) (goal start capacity count : ℕ) (t₀ : Columns) (n₀ : ℕ) (t : Columns) (n e : ℕ) : Type 0 where
@@ -60,6 +67,15 @@ pub record Wanted (A : Actions) (conditions : List ℕ) (n c a new : ℕ) : Type
 
 -- ---- before the loops
 
+pub in-rows : {needs adds deletes : List ℕ} {count : ℕ} → count ≡ actionsOf needs adds deletes .count → InRows needs adds deletes count
+in-rows {needs} {adds} {deletes} e =
+    record {
+      in-needs = omega (arith, count-needs (length needs) (length adds) (length deletes));
+      in-adds = omega (arith, count-adds (length needs) (length adds) (length deletes));
+      in-deletes = omega (arith, count-deletes (length needs) (length adds) (length deletes));
+      few = omega (arith, count-most (length needs) (length adds) (length deletes));
+    }
+
 -- entry 0 is stored
 pub root-held : {capacity : ℕ} (goal : ℕ) (t : Columns) → capacity ≡ room t → 0 < capacity → Holds capacity 1 t (store t 0 goal 255 0 0)
 root-held goal t e h = holds-store (holds-none t e) h goal 255 0 0 (omega arith)
@@ -73,7 +89,10 @@ module _ (A : Actions) (goal start : ℕ) {capacity : ℕ} (t : Columns) (e : ca
 
   module _ (h : 0 < capacity) where
     root-list : held (store t 0 goal 255 0 0) 1 ≡ root D₀ ∷ []
-    root-list = entries-store (t .conditions) (t .actions) (t .parents) (t .depths) 0 goal 255 0 0 (omega arith) (omega arith) (omega arith) (omega arith)
+    root-list =
+        let H = holds-none t e in
+        entries-store (t .conditions) (t .actions) (t .parents) (t .depths) 0 goal 255 0 0 (omega (arith, H .conditions .roomy))
+        (omega (arith, H .actions .roomy)) (omega (arith, H .parents .roomy)) (omega (arith, H .depths .roomy))
 
     pub goal-met : T (subset goal start) → covered (held (store t 0 goal 255 0 0) 1) ≡ startPlan A goal capacity start
     goal-met s = ap covered root-list ∙ sym (start-covered D₀ (A .count) capacity (λ c. subset c start) h s)

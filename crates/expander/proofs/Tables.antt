@@ -15,6 +15,7 @@ use Rattle.planning.specs.ColumnLaws.{length-prefix}
 use Rattle.planning.specs.Facts.{Actions, startPlan}
 use Rattle.expander.specs.declared.Expanded.{Expanded}
 use Rattle.expander.specs.Expands.{Columns, columns, room, held, over, outcomeOf, planIn, Expands}
+use Rattle.expander.specs.ExpandsLaws.{capacity-conditions, capacity-actions, capacity-parents, capacity-depths, capacity-most}
 use Rattle.expander.specs.ExpandsLaws.{stored, outcome-entries, entryOf}
 
 -- ---- one column
@@ -67,13 +68,17 @@ store t n c a p d = columns (set (t .conditions) n c) (set (t .actions) n a) (se
 -- as they are lent, they hold none
 pub holds-none : {capacity : ℕ} (t : Columns) → capacity ≡ room t → Holds capacity 0 t t
 holds-none t e =
+    let c = length (t .conditions) in
+    let a = length (t .actions) in
+    let p = length (t .parents) in
+    let d = length (t .depths) in
     record {
-      conditions = kept-self (omega arith);
-      actions = kept-self (omega arith);
-      parents = kept-self (omega arith);
-      depths = kept-self (omega arith);
+      conditions = kept-self (omega (arith, capacity-conditions c a p d));
+      actions = kept-self (omega (arith, capacity-actions c a p d));
+      parents = kept-self (omega (arith, capacity-parents c a p d));
+      depths = kept-self (omega (arith, capacity-depths c a p d));
       fits = omega arith;
-      small = omega arith;
+      small = omega (arith, capacity-most c a p d);
       shallow = λ i h. absurd (not-suc-le-zero h);
     }
 

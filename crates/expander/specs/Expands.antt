@@ -12,8 +12,8 @@ use Rattle.expander.specs.declared.Expanded.the-variants as X
 
 -- ---- the actions, in three rows of masks
 
--- by the lengths of the rows: the shortest, and "0 to 128 JOBs numbered from 0"
-abbrev pub countOf : ℕ → ℕ → ℕ → ℕ
+-- how many, by the lengths of the rows: the shortest counts, and "0 to 128 JOBs numbered from 0"
+unfoldable pub countOf : ℕ → ℕ → ℕ → ℕ
 countOf needs adds deletes = min (min (min needs adds) deletes) 128
 
 abbrev pub actionsOf : List ℕ → List ℕ → List ℕ → Actions
@@ -36,10 +36,11 @@ pub record Columns : Type 0 where
 abbrev pub columns : List ℕ → List ℕ → List ℕ → List ℕ → Columns
 columns conditions actions parents depths = record { conditions = conditions; actions = actions; parents = parents; depths = depths }
 
--- by the lengths of the tables: "Capacity is the shortest of the four lent list tables, and at most 4,096."
-abbrev pub capacityOf : ℕ → ℕ → ℕ → ℕ → ℕ
+-- "Capacity is the shortest of the four lent list tables, and at most 4,096."
+unfoldable pub capacityOf : ℕ → ℕ → ℕ → ℕ → ℕ
 capacityOf conditions actions parents depths = min (min (min conditions actions) (min parents depths)) 4096
 
+-- the capacity of the tables
 abbrev pub room : Columns → ℕ
 room t = capacityOf (length (t .conditions)) (length (t .actions)) (length (t .parents)) (length (t .depths))
 
@@ -59,11 +60,11 @@ outcomeOf (X.Exhausted n) t = exhausted (held t n)
 outcomeOf (X.Covered n) t = covered (held t n)
 outcomeOf (X.Full n) t = full (held t n)
 
--- document 01's plan, with the capacity of the tables
+-- document 01's plan, as far as the tables have room
 abbrev pub planIn : Columns → Actions → ℕ → ℕ → Outcome ℕ
 planIn t A goal start = startPlan A goal (room t) start
 
--- The answer is the plan's, "the list tables hold the entries stored, all else untouched".
+-- The answer is the plan's, and "the list tables hold the entries stored, all else untouched".
 pub record Expands (A : Actions) (goal start : ℕ) (before after : Columns) (r : Expanded) : Type 0 where
   pub outcome : outcomeOf r after ≡ planIn before A goal start
   pub conditions : after .conditions ≡ over (λ x. x .condition) (entries (planIn before A goal start)) (before .conditions)

@@ -2,7 +2,7 @@
 -- Assumes nothing.
 use mathlib.Core.Path.{_≡_, refl, sym, ap, _∙_, subst}
 use mathlib.Core.List.{List}
-use Prim.Native.Nat.{ℕ, suc, _+_, _≤_, _<_, min}
+use Prim.Native.Nat.{ℕ, suc, _≤_, _<_}
 use native.Mathlib.Omega.{arith}
 use lib.Dec.{T}
 use lib.ListN.{length, getD}
@@ -15,15 +15,62 @@ use Rattle.planning.specs.Progress.{Sound}
 use Rattle.planning.specs.ExpansionLaws.{expand-sound}
 use Rattle.planning.specs.Demand.{FirstIn}
 use Rattle.planning.specs.DemandLaws.{planned-fits, planned-good, planned-action, planned-depth}
-use Rattle.planning.specs.Columns.{entryAt, entriesOf}
+use Rattle.planning.specs.Columns.{entryAt}
 use Rattle.planning.specs.ColumnLaws.{length-prefix, getD-prefix}
-use Rattle.planning.specs.Facts.{Actions, unitDomain, startPlan, WithinFacts}
+use Rattle.planning.specs.Facts.{Actions, unitDomain, WithinFacts}
 use Rattle.planning.specs.FactLaws.{fact-plannable, fact-start-first, fact-no-way, condition-within}
 use Rattle.expander.specs.declared.Expanded.{Expanded}
 use Rattle.expander.specs.declared.Expanded.the-variants as X
-use Rattle.expander.specs.Expands.{Columns, room, held, outcomeOf, planIn, Expands}
+use Rattle.expander.specs.Expands.{countOf, Columns, capacityOf, room, held, outcomeOf, planIn, Expands}
 
--- how many entries are stored
+-- ---- the number of actions, and the capacity
+
+module _ (needs adds deletes : ℕ) where
+  pub count-needs : countOf needs adds deletes ≤ needs
+  unfolding countOf
+  count-needs = omega arith
+
+  pub count-adds : countOf needs adds deletes ≤ adds
+  unfolding countOf
+  count-adds = omega arith
+
+  pub count-deletes : countOf needs adds deletes ≤ deletes
+  unfolding countOf
+  count-deletes = omega arith
+
+  pub count-most : countOf needs adds deletes ≤ 128
+  unfolding countOf
+  count-most = omega arith
+
+-- rows of one length have an action each
+pub count-rows : (n : ℕ) → n ≤ 128 → countOf n n n ≡ n
+unfolding countOf
+count-rows n h = omega arith
+
+module _ (conditions actions parents depths : ℕ) where
+  pub capacity-conditions : capacityOf conditions actions parents depths ≤ conditions
+  unfolding capacityOf
+  capacity-conditions = omega arith
+
+  pub capacity-actions : capacityOf conditions actions parents depths ≤ actions
+  unfolding capacityOf
+  capacity-actions = omega arith
+
+  pub capacity-parents : capacityOf conditions actions parents depths ≤ parents
+  unfolding capacityOf
+  capacity-parents = omega arith
+
+  pub capacity-depths : capacityOf conditions actions parents depths ≤ depths
+  unfolding capacityOf
+  capacity-depths = omega arith
+
+  pub capacity-most : capacityOf conditions actions parents depths ≤ 4096
+  unfolding capacityOf
+  capacity-most = omega arith
+
+-- ---- the answer
+
+-- how many entries an answer says are stored
 abbrev pub stored : Expanded → ℕ
 stored (X.Exhausted n) = n
 stored (X.Covered n) = n
@@ -44,7 +91,7 @@ answerOf (full l) = X.Full (length l)
 abbrev pub entryOf : Columns → ℕ → Entry ℕ
 entryOf t i = entryAt (t .conditions) (t .actions) (t .parents) (t .depths) i
 
-held-length : (t : Columns) (n : ℕ) → length (held t n) ≡ n
+pub held-length : (t : Columns) (n : ℕ) → length (held t n) ≡ n
 held-length t n = length-prefix (entryOf t) n
 
 outcome-answer : (r : Expanded) (t : Columns) → answerOf (outcomeOf r t) ≡ r
@@ -80,9 +127,16 @@ module _ {A : Actions} {goal start : ℕ} {before after : Columns} {r : Expanded
   stored-fits = omega (arith, planned-fits (fact-plannable A goal) (room before) (λ c. subset c start), list-length)
 
   pub stored-small : stored r ≤ 4096
-  stored-small = omega (arith, stored-fits)
+  stored-small =
+      let t = before in
+      omega (arith, stored-fits, capacity-most (length (t .conditions)) (length (t .actions)) (length (t .parents)) (length (t .depths)))
 
-  -- ---- what they are: the goal first, and each later entry comes from an earlier one
+  -- ---- what they are: the goal first, and each later entry comes from an earlier one by one of the actions
+
+  pub stored-goal : 0 < stored r → getD (after .conditions) 0 0 ≡ goal
+  stored-goal h =
+      ap (λ x. x .condition) (entry-held 0 h)
+      ∙ planned-good (fact-plannable A goal) (room before) (λ c. subset c start) (omega (arith, list-length)) .goal-first
 
   module _ (i : ℕ) (h : i < stored r) where
     inside : i < length list

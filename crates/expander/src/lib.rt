@@ -54,7 +54,7 @@ fn regress(needs: u64, adds: u64, condition: u64) -> u64
 }
 
 // Lists the conditions from which the actions lead to the goal, nearest first, up to the first that is part of the start.
-// Row a of `needs`, `adds` and `deletes` is action a. Entry n of the list is row n of `conditions`, `actions`, `parents` and `depths`.
+// Action a has its masks at a of `needs`, `adds` and `deletes`; entry i stands at i of `conditions`, `actions`, `parents` and `depths`.
 pub fn expand(
     needs: &[u64],
     adds: &[u64],

@@ -13,7 +13,7 @@ use Rattle.planning.specs.Domain.{Domain, Plannable}
 use Rattle.planning.specs.Sequence.{Answer, running, total, Reaches}
 use Rattle.planning.specs.Listing.{path, answerAt, Good, Fresh, Optimal}
 use Rattle.planning.specs.Logic.{choice-true, choice-false}
-use Rattle.planning.specs.Theory.{run-transfer, first-met, no-dead-line, by-parents, all-conditions, complete, best}
+use Rattle.planning.specs.Theory.{run-transfer, first-met, no-dead-line, by-parents, all-conditions, path-exact, complete, best}
 use Rattle.planning.specs.Expansion.{Entry, Outcome, exhausted, covered, full, entries, entryIn, expand, listing}
 use Rattle.planning.specs.Progress.{Progress, Sound}
 use Rattle.planning.specs.ProgressLaws.{exhausted-closed, entry-closed}
@@ -133,6 +133,12 @@ module _ {State Condition : Type 0} {D : Domain State Condition ℕ} {count : �
       let g = planned-good (omega arith) in
       by-parents D (listing D l) (length l) g (λ i. entryIn D l i .depth ≤ i) (omega (arith, g .goal-free))
       (λ i b d q. omega (arith, q, d .cost-added, d .parent-before, H .unit-cost (entryIn D l (suc i) .action))) i h
+
+  -- and its path has as many actions as it is deep
+  pub planned-path : (i : ℕ) → i < length (entries planned) → length (path (listing D (entries planned)) i) ≡ entryIn D (entries planned) i .depth
+  planned-path i h =
+      let l = entries planned in
+      sym (total-length (path (listing D l) i)) ∙ path-exact D (listing D l) (length l) (planned-good (omega arith)) i h
 
   -- each condition has what the goal has and regression keeps
   pub planned-condition : (Q : Condition → Type 0) → Q (D .goal) → ((a : ℕ) (c : Condition) → T (D .relevant a c) → Q c → Q (D .regress a c))

@@ -13,7 +13,8 @@ use lib.Dec.{T, T-not}
 use Rattle.base.specs.Bools.{by-cases}
 use Rattle.planning.specs.Domain.{Domain, Laws}
 use Rattle.planning.specs.Sequence.{Answer, success, running, total, Reaches, Run}
-use Rattle.planning.specs.Listing.{Listing, pathUpTo, path, answerAt, Covered, CoveredWithin, First, Derived, Good, Fresh, Closed, Optimal}
+use Rattle.planning.specs.Listing.{Listing, path, answerAt, Covered, CoveredWithin, First, Derived, Good, Fresh, Closed, Optimal}
+use Rattle.planning.specs.PathLaws.{path-step as step-along}
 use Rattle.planning.specs.Logic.{below-suc}
 
 -- ---- runs, over any tick
@@ -99,21 +100,7 @@ module _ {State Condition Action : Type 0} (D : Domain State Condition Action) (
 
   -- the path of an entry is its action, and then the path of its parent
   pub path-step : (i : ℕ) → suc i < n → path P (suc i) ≡ P .action (suc i) ∷ path P (P .parent (suc i))
-  path-step i h =
-      let b = G .derived (suc i) (omega arith) h .parent-before in
-      ap (λ w. P .action (suc i) ∷ w) (enough i (P .parent (suc i)) (P .parent (suc i)) (omega (arith, b)) (omega arith) (omega (arith, b)))
-    where
-      at-goal : (f : ℕ) → pathUpTo P f 0 ≡ []
-      at-goal zero = refl
-      at-goal (suc f) = refl
-
-      enough : (f g i : ℕ) → i ≤ f → i ≤ g → i < n → pathUpTo P f i ≡ pathUpTo P g i
-      enough zero g i le ge h = let z : i ≡ 0 = omega arith in rw z (sym (at-goal g))
-      enough (suc f) zero i le ge h = let z : i ≡ 0 = omega arith in rw z
-      enough (suc f) (suc g) zero le ge h = refl
-      enough (suc f) (suc g) (suc i) le ge h =
-          let b = G .derived (suc i) (omega arith) h .parent-before in
-          ap (λ w. P .action (suc i) ∷ w) (enough f g (P .parent (suc i)) (omega (arith, b)) (omega (arith, b)) (omega (arith, b)))
+  path-step = step-along P n (λ i h. G .derived (suc i) (omega arith) h .parent-before)
 
   -- the path of an entry costs what the entry says
   pub path-exact : (i : ℕ) → i < n → total D (path P i) ≡ P .cost i

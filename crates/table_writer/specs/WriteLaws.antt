@@ -18,7 +18,7 @@ use Rattle.refusal.specs.declared.Refusal.{Refusal}
 use Rattle.refusal.specs.Checked.{Checked, accepted, refused, refusedBy}
 use Rattle.commands.specs.Commands.{FACTS, JOB, GOAL, END-OF-TABLE}
 use Rattle.commands.specs.Numbers.{toBytes}
-use Rattle.commands.specs.NumberLaws.{sets-append, to-length}
+use Rattle.commands.specs.NumberLaws.{sets-after, to-length}
 use Rattle.table.specs.declared.Job.{Job}
 use Rattle.table.specs.Table.{Table, maxJobs, noJob, jobBytes, jobsBytes, goalBytes, tableBytes}
 use Rattle.table.specs.Read.{factsInRange, judged}
@@ -45,9 +45,6 @@ module _ (needs adds deletes seconds : List ℕ) (e : even needs adds deletes se
   seconds-long = eqb-true _ _ (is-true _ (and-right (eqb (length deletes) (length needs)) _ rest))
 
 -- ---- stores, one run after another
-
-sets-after : (l xs ys : List ℕ) (at next : ℕ) → at + length xs ≡ next → sets (sets l at xs) next ys ≡ sets l at (xs ++ ys)
-sets-after l xs ys at next e = ap (λ (k : ℕ). sets (sets l at xs) k ys) (sym e) ∙ sym (sets-append l at xs ys)
 
 pub job-written : (l : List ℕ) (at : ℕ) (j : Job)
     → sets (sets (sets (sets (set l at JOB) (at + 1) (toBytes 8 (j .needs))) (at + 9) (toBytes 8 (j .adds))) (at + 17) (toBytes 8 (j .deletes))) (at + 25) (toBytes 2 (j .seconds))

@@ -15,8 +15,8 @@ use Rattle.planning.specs.Facts.{Actions}
 use Rattle.expander.specs.declared.Expanded.the-variants as X
 use Rattle.expander.specs.Expands.{actionsOf, Columns, columns, room}
 use Rattle.expander.proofs.Tables.{Holds, holds-none, holds-on, expands}
-use Rattle.expander.proofs.Loops.{AtEntry, AtAction, AtListed, Wanted, no-room, root-held, goal-met, first-entry, exhausts, enter, leave}
-use Rattle.expander.proofs.Loops.{skip-irrelevant, skip-listed, fills, holds-new, ends, grows, pass, clash}
+use Rattle.expander.proofs.Loops.{InRows, AtEntry, AtAction, AtListed, Wanted, in-rows, no-room, root-held, goal-met, first-entry, exhausts}
+use Rattle.expander.proofs.Loops.{enter, leave, skip-irrelevant, skip-listed, fills, holds-new, ends, grows, pass, clash}
 use Rattle.expander.proofs.expand.Statement.{statement}
 use Rattle.expander.proofs.expand.Tie as tie
 
@@ -30,7 +30,8 @@ abbrev μ-search : tie.MeasureT-search
 abbrev Inv-actions : tie.InvT-actions
 Inv-actions needs adds deletes goal start conditions₀ actions₀ parents₀ depths₀ capacity count n₀ e condition depth next₀ conditions actions
     parents depths n next =
-    AtAction (actionsOf needs adds deletes) goal start capacity count (columns conditions₀ actions₀ parents₀ depths₀) n₀ e condition depth
+    InRows needs adds deletes count
+    × AtAction (actionsOf needs adds deletes) goal start capacity count (columns conditions₀ actions₀ parents₀ depths₀) n₀ e condition depth
     (columns conditions actions parents depths) n next
 
 abbrev μ-actions : tie.MeasureT-actions
@@ -40,7 +41,8 @@ abbrev μ-actions : tie.MeasureT-actions
 
 abbrev Inv-entries : tie.InvT-entries
 Inv-entries needs adds deletes goal start conditions₀ actions₀ parents₀ depths₀ capacity count n₀ e₀ conditions actions parents depths n e =
-    AtEntry (actionsOf needs adds deletes) goal start capacity count (columns conditions₀ actions₀ parents₀ depths₀) n₀
+    InRows needs adds deletes count
+    × AtEntry (actionsOf needs adds deletes) goal start capacity count (columns conditions₀ actions₀ parents₀ depths₀) n₀
     (columns conditions actions parents depths) n e
 
 abbrev μ-entries : tie.MeasureT-entries
@@ -94,11 +96,11 @@ entry-held : (c : AtEntries) → Holds (c .before .before .before .before .befor
     (columns (c .entries .conditions) (c .entries .actions) (c .entries .parents) (c .entries .depths))
 entry-held c =
     holds-on (root-held (start-of c .args .goal) (lent (start-of c)) (room-of c) (omega (arith, c .before .before .before .before .if1 .left)))
-    (c .entries .inv .holds) (c .entries .inv .grown)
+    (c .entries .inv .1 .holds) (c .entries .inv .1 .grown)
 
 action-held : (c : AtActions) → Holds (entry-of c .before .before .before .before .before .capacity-of .result) (c .actions .n) (lent (start-of (entry-of c)))
     (columns (c .actions .conditions) (c .actions .actions) (c .actions .parents) (c .actions .depths))
-action-held c = holds-on (entry-held (entry-of c)) (c .actions .inv .holds) (c .actions .inv .grown)
+action-held c = holds-on (entry-held (entry-of c)) (c .actions .inv .1 .holds) (c .actions .inv .1 .grown)
 
 -- the search passed every entry
 new-wanted : (c : Searched) → not (c .if5 .found) ≡ true
@@ -108,7 +110,7 @@ new-wanted : (c : Searched) → not (c .if5 .found) ≡ true
     (c .before .before .regress .result)
 new-wanted c t =
     record {
-      below = omega (arith, action-of (c .before) .actions .inv .counted, turn-of (c .before) .actions-test .taken);
+      below = omega (arith, action-of (c .before) .actions .inv .1 .counted, turn-of (c .before) .actions-test .taken);
       serves = holds _ (sym (c .before .before .before .before .before .before .is-relevant .ensures) ∙ c .before .before .before .before .before .if4 .taken);
       made = c .before .before .regress .ensures;
       unlisted = λ i h.
@@ -135,16 +137,24 @@ returns c =
     expands e (X.Full 0) (holds-none (lent s) e) (no-room _ _ _ (lent s) e (c .if1 .taken))
 
 slice-write-conditions : tie.Need-slice-write-conditions Inv-search μ-search Inv-actions μ-actions Inv-entries μ-entries
-slice-write-conditions c = search needs
+slice-write-conditions c =
+    let H = holds-none (lent (c .before .before .before .before .before .before .before .before .before)) (c .before .capacity-of .ensures) in
+    omega (arith, H .conditions .roomy, c .if1 .left)
 
 slice-write-actions : tie.Need-slice-write-actions Inv-search μ-search Inv-actions μ-actions Inv-entries μ-entries
-slice-write-actions c = search needs
+slice-write-actions c =
+    let H = holds-none (lent (c .before .before .before .before .before .before .before .before .before)) (c .before .capacity-of .ensures) in
+    omega (arith, H .actions .roomy, c .if1 .left)
 
 slice-write-parents : tie.Need-slice-write-parents Inv-search μ-search Inv-actions μ-actions Inv-entries μ-entries
-slice-write-parents c = search needs
+slice-write-parents c =
+    let H = holds-none (lent (c .before .before .before .before .before .before .before .before .before)) (c .before .capacity-of .ensures) in
+    omega (arith, H .parents .roomy, c .if1 .left)
 
 slice-write-depths : tie.Need-slice-write-depths Inv-search μ-search Inv-actions μ-actions Inv-entries μ-entries
-slice-write-depths c = search needs
+slice-write-depths c =
+    let H = holds-none (lent (c .before .before .before .before .before .before .before .before .before)) (c .before .capacity-of .ensures) in
+    omega (arith, H .depths .roomy, c .if1 .left)
 
 is-subset-requires : tie.Need-is-subset-requires Inv-search μ-search Inv-actions μ-actions Inv-entries μ-entries
 is-subset-requires c κs = tt
@@ -173,9 +183,11 @@ count-of-requires c κs = tt
 
 entries-holds : tie.Need-entries-holds Inv-search μ-search Inv-actions μ-actions Inv-entries μ-entries
 entries-holds c =
-    let s = c .before .before .before .before .before .before .before .before .before .before .before .before in
-    first-entry _ _ _ (lent s) (c .before .before .before .before .capacity-of .ensures) (omega (arith, c .before .before .before .if1 .left))
-    (c .count-of .ensures) (fails _ (sym (c .before .before .is-subset .ensures) ∙ c .before .if2 .left))
+    let s = c .before .before .before .before .before .before .before .before .before .before .before .before in (
+      in-rows (c .count-of .ensures),
+      first-entry _ _ _ (lent s) (c .before .before .before .before .capacity-of .ensures) (omega (arith, c .before .before .before .if1 .left))
+          (c .count-of .ensures) (fails _ (sym (c .before .before .is-subset .ensures) ∙ c .before .if2 .left)),
+    )
 
 mul-condition : tie.Need-mul-condition Inv-search μ-search Inv-actions μ-actions Inv-entries μ-entries
 mul-condition c = search needs
@@ -190,7 +202,7 @@ slice-read-depth : tie.Need-slice-read-depth Inv-search μ-search Inv-actions μ
 slice-read-depth c = search needs
 
 actions-holds : tie.Need-actions-holds Inv-search μ-search Inv-actions μ-actions Inv-entries μ-entries
-actions-holds c = enter (c .before .before .before .entries .inv) (c .before .before .if3 .left)
+actions-holds c = (c .before .before .before .entries .inv .0, enter (c .before .before .before .entries .inv .1) (c .before .before .if3 .left))
 
 add-next : tie.Need-add-next Inv-search μ-search Inv-actions μ-actions Inv-entries μ-entries
 add-next c = search needs
@@ -234,7 +246,7 @@ mul-is-subset c = search needs
 slice-read-is-subset : tie.Need-slice-read-is-subset Inv-search μ-search Inv-actions μ-actions Inv-entries μ-entries
 slice-read-is-subset c =
     let s = c .before .before in
-    omega (arith, s .search .inv .inside, c .before .if5 .left, action-of s .actions .inv .holds)
+    omega (arith, s .search .inv .inside, c .before .if5 .left, action-of s .actions .inv .1 .holds)
 
 is-subset-requires-2 : tie.Need-is-subset-requires-2 Inv-search μ-search Inv-actions μ-actions Inv-entries μ-entries
 is-subset-requires-2 c κs = tt
@@ -254,7 +266,7 @@ mul-conditions c = search needs
 
 slice-write-conditions-2 : tie.Need-slice-write-conditions-2 Inv-search μ-search Inv-actions μ-actions Inv-entries μ-entries
 slice-write-conditions-2 c =
-    let H = action-of (c .before .before .before) .actions .inv .holds in
+    let H = action-of (c .before .before .before) .actions .inv .1 .holds in
     omega (arith, H .conditions .roomy, H .fits, c .if8 .left)
 
 cast-actions : tie.Need-cast-actions Inv-search μ-search Inv-actions μ-actions Inv-entries μ-entries
@@ -262,7 +274,7 @@ cast-actions c = search needs
 
 slice-write-actions-2 : tie.Need-slice-write-actions-2 Inv-search μ-search Inv-actions μ-actions Inv-entries μ-entries
 slice-write-actions-2 c =
-    let H = action-of (c .before .before .before) .actions .inv .holds in
+    let H = action-of (c .before .before .before) .actions .inv .1 .holds in
     omega (arith, H .actions .roomy, H .fits, c .if8 .left)
 
 cast-parents : tie.Need-cast-parents Inv-search μ-search Inv-actions μ-actions Inv-entries μ-entries
@@ -273,12 +285,12 @@ mul-parents c = search needs
 
 slice-write-parents-2 : tie.Need-slice-write-parents-2 Inv-search μ-search Inv-actions μ-actions Inv-entries μ-entries
 slice-write-parents-2 c =
-    let H = action-of (c .before .before .before) .actions .inv .holds in
+    let H = action-of (c .before .before .before) .actions .inv .1 .holds in
     omega (arith, H .parents .roomy, H .fits, c .if8 .left)
 
 add-depths : tie.Need-add-depths Inv-search μ-search Inv-actions μ-actions Inv-entries μ-entries
 add-depths c =
-    let J = action-of (c .before .before .before) .actions .inv in
+    let J = action-of (c .before .before .before) .actions .inv .1 in
     omega (arith, J .its-depth, J .holds .shallow _ (J .inside), J .inside, J .holds .fits, J .holds .small)
 
 mul-depths : tie.Need-mul-depths Inv-search μ-search Inv-actions μ-actions Inv-entries μ-entries
@@ -286,7 +298,7 @@ mul-depths c = search needs
 
 slice-write-depths-2 : tie.Need-slice-write-depths-2 Inv-search μ-search Inv-actions μ-actions Inv-entries μ-entries
 slice-write-depths-2 c =
-    let H = action-of (c .before .before .before) .actions .inv .holds in
+    let H = action-of (c .before .before .before) .actions .inv .1 .holds in
     omega (arith, H .depths .roomy, H .fits, c .if8 .left)
 
 add-n : tie.Need-add-n Inv-search μ-search Inv-actions μ-actions Inv-entries μ-entries
@@ -301,8 +313,9 @@ actions-less c = search needs
 actions-again : tie.Need-actions-again Inv-search μ-search Inv-actions μ-actions Inv-entries μ-entries
 actions-again c =
     let s = c .before .before .before .before in
-    grows (action-of (s .before) .actions .inv) (new-wanted s (c .before .before .before .if7 .taken)) (c .before .before .if8 .left)
-    (fails _ (sym (c .before .is-subset3 .ensures) ∙ c .if9 .left))
+    let x = action-of (s .before) .actions in
+    let unmet = fails _ (sym (c .before .is-subset3 .ensures) ∙ c .if9 .left) in
+    (x .inv .0, grows (x .inv .1) (new-wanted s (c .before .before .before .if7 .taken)) (c .before .before .if8 .left) unmet)
 
 actions-less-2 : tie.Need-actions-less-2 Inv-search μ-search Inv-actions μ-actions Inv-entries μ-entries
 actions-less-2 c = search needs
@@ -311,27 +324,30 @@ actions-again-2 : tie.Need-actions-again-2 Inv-search μ-search Inv-actions μ-a
 actions-again-2 c =
     let s = c .before .before in
     let p = part-listed (c .before) (c .if7 .left) in
-    skip-listed (action-of s .actions .inv) (turn-of s .actions-test .taken) _ (s .before .regress .ensures) _ (p .0) (p .1)
+    let x = action-of s .actions in
+    (x .inv .0, skip-listed (x .inv .1) (turn-of s .actions-test .taken) _ (s .before .regress .ensures) _ (p .0) (p .1))
 
 actions-less-3 : tie.Need-actions-less-3 Inv-search μ-search Inv-actions μ-actions Inv-entries μ-entries
 actions-less-3 c = search needs
 
 actions-again-3 : tie.Need-actions-again-3 Inv-search μ-search Inv-actions μ-actions Inv-entries μ-entries
 actions-again-3 c =
-    skip-irrelevant (c .before .before .before .before .before .actions .inv) (c .before .before .before .before .actions-test .taken)
-    (fails _ (sym (c .before .is-relevant .ensures) ∙ c .if4 .left))
+    let x = c .before .before .before .before .before .actions in
+    let irrelevant = fails _ (sym (c .before .is-relevant .ensures) ∙ c .if4 .left) in
+    (x .inv .0, skip-irrelevant (x .inv .1) (c .before .before .before .before .actions-test .taken) irrelevant)
 
 add-e : tie.Need-add-e Inv-search μ-search Inv-actions μ-actions Inv-entries μ-entries
 add-e c = search needs
 
 entries-less : tie.Need-entries-less Inv-search μ-search Inv-actions μ-actions Inv-entries μ-entries
 entries-less c =
-    let I = c .before .before .before .before .before .entries .inv in
+    let I = c .before .before .before .before .before .entries .inv .1 in
     omega (arith, I .inside, c .before .before .before .before .if3 .left, I .holds .fits)
 
 entries-again : tie.Need-entries-again Inv-search μ-search Inv-actions μ-actions Inv-entries μ-entries
 entries-again c =
-    leave (c .before .before .before .before .before .entries .inv) (c .before .before .before .before .if3 .left) (c .before .actions .inv) (c .actions-test .left)
+    let x = c .before .before .before .before .before .entries in
+    (x .inv .0, leave (x .inv .1) (c .before .before .before .before .if3 .left) (c .before .actions .inv .1) (c .actions-test .left))
 
 same-length-5 : tie.Need-same-length-5 Inv-search μ-search Inv-actions μ-actions Inv-entries μ-entries
 same-length-5 c = entry-held (c .before) .conditions .same-length
@@ -346,7 +362,7 @@ same-length-8 : tie.Need-same-length-8 Inv-search μ-search Inv-actions μ-actio
 same-length-8 c = entry-held (c .before) .depths .same-length
 
 returns-3 : tie.Need-returns-3 Inv-search μ-search Inv-actions μ-actions Inv-entries μ-entries
-returns-3 c = expands (room-of (c .before)) (X.Exhausted _) (entry-held (c .before)) (exhausts (c .before .entries .inv) (c .if3 .taken))
+returns-3 c = expands (room-of (c .before)) (X.Exhausted _) (entry-held (c .before)) (exhausts (c .before .entries .inv .1) (c .if3 .taken))
 
 same-length-9 : tie.Need-same-length-9 Inv-search μ-search Inv-actions μ-actions Inv-entries μ-entries
 same-length-9 c = action-held (action-of (c .before .before .before)) .conditions .same-length
@@ -364,7 +380,7 @@ returns-4 : tie.Need-returns-4 Inv-search μ-search Inv-actions μ-actions Inv-e
 returns-4 c =
     let x = action-of (c .before .before .before) in
     expands (room-of (entry-of x)) (X.Full _) (action-held x)
-    (fills (x .actions .inv) (new-wanted (c .before .before) (c .before .if7 .taken)) (c .if8 .taken))
+    (fills (x .actions .inv .1) (new-wanted (c .before .before) (c .before .if7 .taken)) (c .if8 .taken))
 
 same-length-13 : tie.Need-same-length-13 Inv-search μ-search Inv-actions μ-actions Inv-entries μ-entries
 same-length-13 c = simp length-set (action-held (action-of (c .before .before .before .before .before)) .conditions .same-length)
@@ -381,7 +397,7 @@ same-length-16 c = simp length-set (action-held (action-of (c .before .before .b
 returns-5 : tie.Need-returns-5 Inv-search μ-search Inv-actions μ-actions Inv-entries μ-entries
 returns-5 c =
     let x = action-of (c .before .before .before .before .before) in
-    let J = x .actions .inv in
+    let J = x .actions .inv .1 in
     let W = new-wanted (c .before .before .before .before) (c .before .before .before .if7 .taken) in
     expands (room-of (entry-of x)) (X.Covered (x .actions .n + 1))
     (holds-on (entry-held (entry-of x)) (holds-new J W (c .before .before .if8 .left)) (omega (arith, J .grown)))
