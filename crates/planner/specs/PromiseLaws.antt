@@ -1,0 +1,270 @@
+-- Every plan keeps its promises.
+-- Assumes nothing.
+use Prim.Native.Nat.{ℕ, zero, suc, _-_, _*_, _≤_, _<_}
+use native.Mathlib.Omega.{arith}
+use mathlib.Core.Path.{_≡_, refl, sym, ap, _∙_, subst}
+use mathlib.Core.Bool.{Bool, true, false, not}
+use mathlib.Core.List.{List, [], _∷_}
+use mathlib.Core.Logic.{_↔_}
+use lib.Dec.{T, leb, leb→le, eqb}
+use lib.ListN.{length, getD}
+use Rattle.base.specs.Bools.{if_then_else_, holds, is-true, and-left, and-right}
+use Rattle.masks.specs.Sets.{subset, intersects, union, within}
+use Rattle.masks.specs.Bits.{subset-bits, disjoint-bits, bits-disjoint}
+use Rattle.masks.specs.Effects.{regressed-applicable}
+use Rattle.refusal.specs.Checked.{Checked, accepted, refused}
+use Rattle.refusal.specs.CheckedLaws.{not-both, accepted-same}
+use Rattle.reading.specs.declared.Reading.{Reading}
+use Rattle.reading.specs.Reading.{sound, Completes, state}
+use Rattle.reading.specs.ReadingLaws.{sound-apart, completes-within, absent-completes, held-completes, state-sound}
+use Rattle.commands.specs.NumberLaws.{AreBytes}
+use Rattle.table.specs.Table.{Table}
+use Rattle.table.specs.Read.{readTable}
+use Rattle.table.specs.RoundTrip.{read-sound}
+use Rattle.planning.specs.Domain.{Domain}
+use Rattle.planning.specs.Sequence.{Reaches}
+use Rattle.planning.specs.Listing.{Good}
+use Rattle.planning.specs.Expansion.{Entry, Outcome, exhausted, covered, full, entries, entryIn, listing}
+use Rattle.planning.specs.Demand.{CoveredBy, FirstIn, tickList, Fewest}
+use Rattle.planning.specs.DemandLaws.{planned-fits, planned-good, planned-action}
+use Rattle.planning.specs.Facts.{Actions, unitDomain, startPlan, WithinFacts}
+use Rattle.planning.specs.FactLaws.{fact-plannable, fact-fewest-by, fact-no-way, fact-start-first, condition-within}
+use Rattle.tree.specs.declared.Status.the-variants.{Failure, Running, Unsettled}
+use Rattle.tree.specs.Tick.{tickTree}
+use Rattle.tree.specs.TickBytes.{tickBytes, answered}
+use Rattle.flat.specs.TreeBytes.{treeBytes}
+use Rattle.flat.specs.FlatTree.{Fits, treeOf}
+use Rattle.flat.specs.FlatLaws.{each-by-place, later-by-place}
+use Rattle.flat.specs.ReadBack.{tick-read}
+use Rattle.flat.specs.FlatPromises.{planAnswer, Met, noEntry, tick-agrees, unsettled-differ, action-named, failure-iff}
+use Rattle.expander.specs.Expands.{Columns, room}
+use Rattle.expander.specs.ExpandsLaws.{capacity-most}
+use Rattle.planner.specs.declared.Summary.{Summary}
+use Rattle.planner.specs.declared.Planned.{Planned}
+use Rattle.planner.specs.Plan.{jobOf, tableActions, tableDomain, Laid, stopped, unlaid, built, laidBy, laidFor, laidFrom, laid, Lays}
+use Rattle.planner.specs.Promise.{runAnswer, tickOn, Ticks, Works, Keeps, Plans}
+
+-- ---- the tick of a list's tree, where the list has at least an entry
+
+getD-inside : {A : Type 0} (l : List A) (i : ℕ) (d e : A) → i < length l → getD l i d ≡ getD l i e
+getD-inside [] i d e h = absurd (omega arith)
+getD-inside (x ∷ l) zero d e h = refl
+getD-inside (x ∷ l) (suc i) d e h = getD-inside l i d e (omega arith)
+
+module _ (A : Actions) (goal : ℕ) where
+  abbrev F : Domain ℕ ℕ ℕ
+  F = unitDomain A goal
+
+  list-agrees : (l : List (Entry ℕ)) (s : ℕ) → 1 ≤ length l → planAnswer (tickTree (state s) (treeOf l) .answer) ≡ tickList F l s
+  list-agrees [] s h = absurd (omega arith)
+  list-agrees (x ∷ l) s h = tick-agrees A goal s x l
+
+  -- the job that is named is that of a later entry, whose condition is read and held
+  list-named : (l : List (Entry ℕ)) (r : Reading) (job : ℕ) → 1 ≤ length l → tickTree r (treeOf l) .answer ≡ Running job
+      → (i : ℕ) × (suc i < length l) × (entryIn F l (suc i) .action ≡ job) × Met r (entryIn F l (suc i) .condition)
+  list-named [] r job h e = absurd (omega arith)
+  list-named (x ∷ l) r job h e =
+      let n = action-named r x l job e in
+      let same = getD-inside l (n .at) noEntry (record { condition = goal; action = 255; parent = 0; depth = 0 }) (n .inside) in
+      (n .at, omega (arith, n .inside), rw same at (n .is-action), rw same at (n .met))
+
+  list-fails : (l : List (Entry ℕ)) (s : ℕ) → 1 ≤ length l → (tickTree (state s) (treeOf l) .answer ≡ Failure) ↔ (CoveredBy F l s → ⊥)
+  list-fails [] s h = absurd (omega arith)
+  list-fails (x ∷ l) s h =
+      let f = failure-iff s x l in (
+        (λ e c. f .0 e (c .at) (c .inside) (rw (getD-inside (x ∷ l) (c .at) noEntry (record { condition = goal; action = 255; parent = 0; depth = 0 }) (c .inside)) (c .met))),
+        (λ n. f .1 (λ i k m. n (record { at = i; inside = k; met = rw (getD-inside (x ∷ l) i noEntry (record { condition = goal; action = 255; parent = 0; depth = 0 }) k) at m }))),
+      )
+
+list-differ : (l : List (Entry ℕ)) (r : Reading) (m : ℕ) → T (not (intersects (r .held) (r .unread))) → 1 ≤ length l → tickTree r (treeOf l) .answer ≡ Unsettled m
+    → (tickTree (state (union (r .held) (r .unread))) (treeOf l) ≡ tickTree (state (r .held)) (treeOf l) → ⊥)
+list-differ [] r m d h e = absurd (omega arith)
+list-differ (x ∷ l) r m d h e = unsettled-differ r d x l m e
+
+-- ---- a plan that is built
+
+module _ (table : List ℕ) (b : AreBytes table) (t : Table) (e : readTable table ≡ accepted t) (capacity start : ℕ) (few : capacity ≤ 4096)
+    (l : List (Entry ℕ)) (q : startPlan (tableActions t) (t .goal) capacity start ≡ covered l) where
+  abbrev A : Actions
+  A = tableActions t
+
+  abbrev D : Domain ℕ ℕ ℕ
+  D = tableDomain t
+
+  abbrev stop : ℕ → Bool
+  stop c = subset c start
+
+  within-facts : WithinFacts (t .facts) A (t .goal)
+  within-facts =
+      let S = read-sound table b t e in
+      record {
+        goal-within = holds _ (S .sound-goal);
+        needs-within = λ a h. and-left (within (t .facts) (jobOf t a .needs)) _ (holds _ (S .sound-jobs a h .in-range));
+        adds-within = λ a h. and-left (within (t .facts) (jobOf t a .adds)) _ (and-right (within (t .facts) (jobOf t a .needs)) _ (holds _ (S .sound-jobs a h .in-range)));
+      }
+
+  first : (i : ℕ) × (length l ≡ suc i) × FirstIn D l start i
+  first = fact-start-first A (t .goal) capacity start l q
+
+  some : 1 ≤ length l
+  some = omega (arith, first .1)
+
+  -- what is known of every plan's list, of this one
+  of-list : (P : List (Entry ℕ) → Type 0) → P (entries (startPlan A (t .goal) capacity start)) → P l
+  of-list P = subst (λ (o : Outcome ℕ). P (entries o)) q
+
+  good : Good D (listing D l) (length l)
+  good = of-list (λ l. 0 < length l → Good D (listing D l) (length l)) (planned-good (fact-plannable A (t .goal)) capacity stop) some
+
+  known : (i : ℕ) → 0 < i → i < length l → entryIn D l i .action < length (t .jobs)
+  known = of-list (λ l. (i : ℕ) → 0 < i → i < length l → entryIn D l i .action < length (t .jobs)) (planned-action (fact-plannable A (t .goal)) capacity stop)
+
+  fits : Fits (t .facts) (length (t .jobs)) l
+  fits =
+      record {
+        some = some;
+        few = omega (arith, few, of-list (λ l. length l ≤ capacity) (planned-fits (fact-plannable A (t .goal)) capacity stop));
+        facts-fit = facts-few;
+        conditions-fit = each-by-place _ l _ (of-list (λ l. (i : ℕ) → i < length l → T (within (t .facts) (entryIn D l i .condition)))
+            (condition-within A (t .goal) capacity stop (t .facts) within-facts));
+        actions-fit = later-by-place _ l _ (λ i h. known (suc i) (omega arith) h);
+      }
+    where
+      facts-few : t .facts ≤ 64
+      facts-few = leb→le (t .facts) 64 (and-right (leb 1 (t .facts)) _ (holds _ (read-sound table b t e .facts-in-range)))
+
+  tick-is : (r : Reading) → sound (t .facts) r ≡ true → tickBytes table (treeBytes l) r ≡ accepted (tickTree r (treeOf l))
+  tick-is = tick-read table t e l fits
+
+  state-tick : (s : ℕ) → T (within (t .facts) s) → tickBytes table (treeBytes l) (state s) ≡ accepted (tickTree (state s) (treeOf l))
+  state-tick s w = tick-is (state s) (is-true _ (state-sound (t .facts) s w))
+
+  -- demand 3
+  run-fewest : (s : ℕ) → T (within (t .facts) s) → CoveredBy D l s → Fewest D (tickOn table (treeBytes l)) l s
+  run-fewest =
+      of-list (λ m. ((s : ℕ) → T (within (t .facts) s) → tickOn table (treeBytes l) s ≡ tickList D m s)
+      → (s : ℕ) → T (within (t .facts) s) → CoveredBy D m s → Fewest D (tickOn table (treeBytes l)) m s)
+      (fact-fewest-by A (t .goal) capacity stop (t .facts) within-facts (tickOn table (treeBytes l)))
+      (λ s w. ap runAnswer (state-tick s w) ∙ list-agrees A (t .goal) l s some)
+
+  module _ (r : Reading) (s : sound (t .facts) r ≡ true) where
+    apart : T (not (intersects (r .held) (r .unread)))
+    apart = sound-apart (t .facts) r (holds _ s)
+
+    needs-met : (job : ℕ) → tickTree r (treeOf l) .answer ≡ Running job → (job < length (t .jobs)) × Met r (jobOf t job .needs)
+    needs-met job a =
+        let n = list-named A (t .goal) l r job some a in
+        let d = good .derived (suc (n .0)) (omega arith) (n .1) in
+        let needs : T (subset (jobOf t (entryIn D l (suc (n .0)) .action) .needs) (r .held)) =
+        regressed-applicable _ _ (jobOf t (entryIn D l (suc (n .0)) .action) .deletes) (r .held) _ (rw (d .condition-regressed) at (n .3 .held)) in
+        let of-job : T (subset (jobOf t job .needs) (r .held)) = rw (n .2) at needs in (
+          rw (n .2) at (known (suc (n .0)) (omega arith) (n .1)),
+          record {
+            held = of-job;
+            read = bits-disjoint (jobOf t job .needs) (r .unread) (λ i. omega (arith, subset-bits (jobOf t job .needs) (r .held) of-job i, disjoint-bits (r .held) (r .unread) apart i));
+          },
+        )
+
+    two-differ : (m : ℕ) → tickTree r (treeOf l) .answer ≡ Unsettled m
+        → (s u : ℕ) × Completes r s × Completes r u × (tickBytes table (treeBytes l) (state s) ≡ tickBytes table (treeBytes l) (state u) → ⊥)
+    two-differ m a =
+        let all = union (r .held) (r .unread) in (
+          all,
+          r .held,
+          held-completes r,
+          absent-completes r,
+          λ same. list-differ l r m apart some a (accepted-same (sym (state-tick all (completes-within (t .facts) r (holds _ s) all (held-completes r))) ∙ same
+              ∙ state-tick (r .held) (completes-within (t .facts) r (holds _ s) (r .held) (absent-completes r)))),
+        )
+
+    ticks-well : Ticks t table (built t l) r
+    ticks-well = record { answer = tickTree r (treeOf l); is-answer = tick-is r s; needs-held = needs-met; unsettled = two-differ }
+
+  fails-iff : (s : ℕ) → T (within (t .facts) s) → (answered (tickBytes table (treeBytes l) (state s)) ≡ accepted Failure) ↔ (CoveredBy D l s → ⊥)
+  fails-iff s w =
+      let f = list-fails A (t .goal) l s some in
+      rw (state-tick s w) ((λ e. f .0 (accepted-same e)), (λ n. ap accepted (f .1 n)))
+
+  pub plan-works : (p : Summary) → p .entries ≡ length l → Works t table start (built t l) p
+  plan-works p n =
+      record {
+        fewest = run-fewest;
+        start-covered = (first .0, n ∙ first .1, first .2);
+        fails = fails-iff;
+        ticks = ticks-well;
+      }
+
+-- ---- every plan
+
+-- what an accepted answer, and no way, tell of how the list ended
+built-told : (t : Table) (room : ℕ) (o : Outcome ℕ) (p : Summary) → laidBy t room o .answer ≡ accepted p
+    → (l : List (Entry ℕ)) × (o ≡ covered l) × (laidBy t room o ≡ built t l) × (p .entries ≡ length l)
+built-told t room (full l) p a = absurd (not-both a)
+built-told t room (exhausted l) p a = absurd (not-both a)
+built-told t room (covered l) p a = by-room (leb (14 * length l - 1) room) a
+  where
+    by-room : (b : Bool) → (if b then built t l else stopped 12 l) .answer ≡ accepted p
+        → (m : List (Entry ℕ)) × (covered l ≡ covered m) × ((if b then built t l else stopped 12 l) ≡ built t m) × (p .entries ≡ length m)
+    by-room true a = (l, refl, refl, ap (λ (x : Summary). x .entries) (sym (accepted-same a)))
+    by-room false a = absurd (not-both a)
+
+abbrev numberIn : Checked Summary → ℕ
+numberIn (accepted p) = 0
+numberIn (refused n p) = n
+
+no-way-told : (t : Table) (room n : ℕ) (o : Outcome ℕ) → laidBy t room o .answer ≡ refused 11 n → (l : List (Entry ℕ)) × (o ≡ exhausted l)
+no-way-told t room n (full l) a = let z = ap numberIn a in absurd (omega arith)
+no-way-told t room n (exhausted l) a = (l, refl)
+no-way-told t room n (covered l) a = by-room (leb (14 * length l - 1) room) a
+  where
+    by-room : (b : Bool) → (if b then built t l else stopped 12 l) .answer ≡ refused 11 n → (m : List (Entry ℕ)) × (covered l ≡ exhausted m)
+    by-room true a = absurd (not-both (sym a))
+    by-room false a = let z = ap numberIn a in absurd (omega arith)
+
+module _ (t : Table) (start : Reading) (capacity room : ℕ) where
+  -- past the checks of the start
+  checked : (P : Laid → Type 0) (sounds reads : Bool) (L : Laid)
+      → (P (unlaid 8 0) → ⊥) → (P (unlaid 9 0) → ⊥) → P (if sounds then (if reads then L else unlaid 9 0) else unlaid 8 0)
+      → (if sounds then (if reads then L else unlaid 9 0) else unlaid 8 0) ≡ L
+  checked P true true L a b p = refl
+  checked P true false L a b p = absurd (b p)
+  checked P false reads L a b p = absurd (a p)
+
+  from-built : (p : Summary) → laidFrom t start capacity room .answer ≡ accepted p → laidFrom t start capacity room ≡ laidFor t (start .held) capacity room
+  unfolding laidFrom
+  from-built p = checked (λ L. L .answer ≡ accepted p) (sound (t .facts) start) (eqb (start .unread) 0) (laidFor t (start .held) capacity room) not-both not-both
+
+  from-no-way : (n : ℕ) → laidFrom t start capacity room .answer ≡ refused 11 n → laidFrom t start capacity room ≡ laidFor t (start .held) capacity room
+  unfolding laidFrom
+  from-no-way n =
+      checked (λ L. L .answer ≡ refused 11 n) (sound (t .facts) start) (eqb (start .unread) 0) (laidFor t (start .held) capacity room)
+      (λ a. let z = ap numberIn a in omega arith) (λ a. let z = ap numberIn a in omega arith)
+
+pub every-plan : (table : List ℕ) → AreBytes table → (start : Reading) (capacity room : ℕ) → capacity ≤ 4096 → Keeps table start (laid table start capacity room)
+unfolding laid laidFor
+every-plan table b start capacity room few = record { works = all-work; no-way = none }
+  where
+    all-work : (t : Table) → readTable table ≡ accepted t → (p : Summary) → laid table start capacity room .answer ≡ accepted p
+        → Works t table (start .held) (laid table start capacity room) p
+    all-work t e p a =
+        let here : laidFrom t start capacity room .answer ≡ accepted p = rw e at a in
+        let f = from-built t start capacity room p here in
+        let w = built-told t room (startPlan (tableActions t) (t .goal) capacity (start .held)) p (ap (λ (L : Laid). L .answer) (sym f) ∙ here) in
+        rw (e, f, w .2) (plan-works table b t e capacity (start .held) few (w .0) (w .1) p (w .3))
+
+    none : (t : Table) → readTable table ≡ accepted t → (n : ℕ) → laid table start capacity room .answer ≡ refused 11 n
+        → (w : List ℕ) → Reaches (tableDomain t) (start .held) w → ⊥
+    none t e n a =
+        let here : laidFrom t start capacity room .answer ≡ refused 11 n = rw e at a in
+        let f = from-no-way t start capacity room n here in
+        let w = no-way-told t room n (startPlan (tableActions t) (t .goal) capacity (start .held)) (ap (λ (L : Laid). L .answer) (sym f) ∙ here) in
+        fact-no-way (tableActions t) (t .goal) capacity (start .held) (w .0) (w .1)
+
+pub plan-kept : (table : List ℕ) → AreBytes table → (start : Reading) (before after : Columns) (lent tree : List ℕ) (r : Planned)
+    → Lays (laid table start (room before) (length lent)) before after lent tree r → Plans table start before after lent tree r
+plan-kept table b start before after lent tree r l =
+    record {
+      lays = l;
+      keeps = every-plan table b start (room before) (length lent)
+          (capacity-most (length (before .conditions)) (length (before .actions)) (length (before .parents)) (length (before .depths)));
+    }
