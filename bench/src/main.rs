@@ -1,0 +1,199 @@
+//! Times the proved library and its counterparts in Rust on the same inputs.
+//!
+//!     bench                       a table of times and ratios
+//!     bench --list                the names of all cases with their sides
+//!     bench --run CASE SIDE N     N calls of one side and nothing else, to count instructions
+
+#[path = "../../tests/src/ffi.rs"]
+#[allow(dead_code)]
+mod ffi;
+mod tight;
+
+use std::hint::black_box;
+use std::time::Instant;
+
+use bay_tests::engine::{self, Job, Lent, Status};
+use bay_tests::trailer;
+
+/// One way to do a case. It gives a number made of its answer, by which the sides are compared.
+struct Side {
+    name: &'static str,
+    call: Box<dyn FnMut() -> u64>,
+}
+
+fn side(name: &'static str, call: impl FnMut() -> u64 + 'static) -> Side {
+    Side { name, call: Box::new(call) }
+}
+
+/// Twelve facts to reach, each from a fact of its own, so that the list has 4,096 entries; the other jobs do the same from
+/// more needs, and what they give is dropped.
+fn long_table(jobs: usize) -> (Vec<u8>, u64) {
+    let job = |i: usize| {
+        let fact = i % 12;
+        let extra = if i < 12 { 0 } else { 1 << (24 + i % 40) };
+        Job { needs: 1 << (12 + fact) | extra, adds: 1 << fact, deletes: 0, seconds: 60 + i as u16 }
+    };
+    let jobs: Vec<Job> = (0..jobs).map(job).collect();
+    (engine::table_bytes(64, &jobs, 0xfff), 0xfff000)
+}
+
+/// A counter of so many bits, each with a fact for set and one for clear: one way of 2^bits - 1 jobs, and as many entries and one.
+fn counter_table(bits: usize) -> (Vec<u8>, u64) {
+    let set = |i: usize| 1u64 << (2 * i);
+    let clear = |i: usize| 2u64 << (2 * i);
+    let job = |i: usize| {
+        let lower_set: u64 = (0..i).map(set).sum();
+        let lower_clear: u64 = (0..i).map(clear).sum();
+        Job { needs: clear(i) | lower_set, adds: set(i) | lower_clear, deletes: clear(i) | lower_set, seconds: 60 }
+    };
+    let jobs: Vec<Job> = (0..bits).map(job).collect();
+    let goal = (0..bits).map(set).sum();
+    (engine::table_bytes(2 * bits as u8, &jobs, goal), (0..bits).map(clear).sum())
+}
+
+fn lent() -> Lent {
+    Lent::filled([4_096, 4_096, 4_096, 4_096, 65_535], 0)
+}
+
+fn plan_case(jobs: usize) -> Vec<Side> {
+    let (table, start) = long_table(jobs);
+    let (library_table, mut library_lent) = (table.clone(), lent());
+    let mut rust_lent = lent();
+    vec![
+        side("library", move || {
+            let answer = ffi::plan(&library_table, start, 0, &mut library_lent);
+            assert_eq!(answer[0], 0);
+            answer[1] << 32 | answer[2] << 8 | answer[3]
+        }),
+        side("rust", move || {
+            let planned = tight::plan(&table, start, 0, &mut rust_lent).expect("a plan");
+            (planned.entries << 32 | planned.tree_bytes << 8 | planned.way_jobs) as u64
+        }),
+    ]
+}
+
+fn status_word(status: Status) -> u64 {
+    match status {
+        Status::Success => 0,
+        Status::Failure => 1 << 56,
+        Status::Running(job) => 2 << 56 | u64::from(job),
+        Status::Unsettled(mask) => 3 << 56 | mask,
+    }
+}
+
+/// A tick that reads every condition: the last entry is the one that is met.
+fn tick_case(table: Vec<u8>, start: u64) -> Vec<Side> {
+    let mut planned_lent = lent();
+    let planned = engine::plan(&table, start, 0, &mut planned_lent).expect("a plan");
+    let tree = planned_lent.tree[..planned.tree_bytes].to_vec();
+    let (t1, t2, t3) = (table.clone(), table.clone(), table.clone());
+    let (r1, r2, r3) = (tree.clone(), tree.clone(), tree.clone());
+    vec![
+        side("library", move || {
+            let answer = ffi::tick(&t1, &r1, start, 0);
+            assert_eq!(answer[0], 0);
+            answer[1] << 56 | answer[2]
+        }),
+        side("rust", move || status_word(tight::tick_by_calls(&t2, &r2, start, 0).expect("sound"))),
+        side("rust_flat", move || status_word(tight::tick_flat(&t3, &r3, start, 0).expect("sound"))),
+        side("rust_plain", move || status_word(engine::tick(&table, &tree, start, 0).expect("sound").status)),
+    ]
+}
+
+fn table_case(table: Vec<u8>) -> Vec<Side> {
+    let library_table = table.clone();
+    vec![
+        side("library", move || {
+            let answer = ffi::read_table(&library_table);
+            assert_eq!(answer[0], 0);
+            answer[3] ^ answer[2] << 48
+        }),
+        side("rust", move || {
+            let header = tight::read_table(&table).unwrap_or_else(|_| panic!("a sound table"));
+            header.goal ^ (header.count as u64) << 48
+        }),
+    ]
+}
+
+/// The cases and what builds them: only what is asked for is built.
+const CASES: [(&str, fn() -> Vec<Side>); 7] = [
+    ("plan_12_jobs", || plan_case(12)),
+    ("plan_72_jobs", || plan_case(72)),
+    ("plan_128_jobs", || plan_case(128)),
+    ("tick_8_entries", || tick_case(trailer::table(), 0x02)),
+    ("tick_4096_entries", || tick_case(counter_table(12).0, counter_table(12).1)),
+    ("table_5_jobs", || table_case(trailer::table())),
+    ("table_128_jobs", || table_case(long_table(128).0)),
+];
+
+/// Nanoseconds of one call: the least of several rounds, each long enough to be measured.
+fn nanoseconds(side: &mut Side, calls: u64) -> f64 {
+    let began = Instant::now();
+    for _ in 0..calls {
+        black_box((side.call)());
+    }
+    began.elapsed().as_nanos() as f64 / calls as f64
+}
+
+fn shown(nanoseconds: f64) -> String {
+    if nanoseconds >= 1e6 {
+        format!("{:.2} ms", nanoseconds / 1e6)
+    } else if nanoseconds >= 1e3 {
+        format!("{:.2} us", nanoseconds / 1e3)
+    } else {
+        format!("{nanoseconds:.0} ns")
+    }
+}
+
+fn measure_all() {
+    const ROUNDS: usize = 7;
+    const ROUND_NANOSECONDS: f64 = 4e7;
+    println!("{:<18} {:<11} {:>11} {:>16}", "case", "side", "time", "library / side");
+    for (name, make) in CASES {
+        let mut sides = make();
+        let answers: Vec<u64> = sides.iter_mut().map(|side| (side.call)()).collect();
+        assert!(answers.iter().all(|answer| *answer == answers[0]), "the sides of {name} differ");
+        let calls: Vec<u64> = sides
+            .iter_mut()
+            .map(|side| (ROUND_NANOSECONDS / nanoseconds(side, 3)).ceil().clamp(1.0, 1e7) as u64)
+            .collect();
+        // The sides take turns, so that a busy moment does not hit one alone.
+        let mut least = vec![f64::INFINITY; sides.len()];
+        for _ in 0..ROUNDS {
+            for (i, side) in sides.iter_mut().enumerate() {
+                least[i] = least[i].min(nanoseconds(side, calls[i]));
+            }
+        }
+        for (side, time) in sides.iter().zip(&least) {
+            println!("{:<18} {:<11} {:>11} {:>16.2}", name, side.name, shown(*time), least[0] / time);
+        }
+    }
+}
+
+fn main() {
+    let words: Vec<String> = std::env::args().skip(1).collect();
+    let words: Vec<&str> = words.iter().map(String::as_str).collect();
+    match words.as_slice() {
+        [] => measure_all(),
+        ["--list"] => {
+            for (name, make) in CASES {
+                for side in make() {
+                    println!("{name} {}", side.name);
+                }
+            }
+        }
+        ["--run", case, side, count] => {
+            let count: u64 = count.parse().expect("N is a number");
+            let (_, make) = CASES.iter().find(|(name, _)| name == case).expect("a case of --list");
+            let mut sides = make();
+            let side = sides.iter_mut().find(|each| each.name == *side).expect("a side of --list");
+            for _ in 0..count {
+                black_box((side.call)());
+            }
+        }
+        _ => {
+            eprintln!("bench [--list | --run CASE SIDE N]");
+            std::process::exit(2);
+        }
+    }
+}

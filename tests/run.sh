@@ -1,0 +1,159 @@
+#!/bin/sh
+# The tests beside the proofs: the proved library and the program bayplan against an engine in Rust, and the examples. Run it from
+# anywhere, after `rt ci`. It needs cargo (no network), a C compiler, and python3 for one example.
+# BAY_ARCHIVE names a library built elsewhere; BAY_SEED gives the random cases another seed.
+set -u
+cd "$(dirname "$0")/.." || exit 1
+root=$(pwd)
+export CARGO_TARGET_DIR="${CARGO_TARGET_DIR:-$root/target/cargo}"
+work=$(mktemp -d)
+trap 'rm -rf "$work"' EXIT
+passed=0
+failed=0
+
+ok() {
+    passed=$((passed + 1))
+    echo "ok: $1"
+}
+
+bad() {
+    failed=$((failed + 1))
+    echo "FAILED: $1"
+}
+
+finish() {
+    echo "$passed passed, $failed failed"
+    [ "$failed" -eq 0 ] && [ "$passed" -gt 0 ]
+    exit
+}
+
+# same NAME EXPECTED PRINTED: the two files are equal.
+same() {
+    if cmp -s "$2" "$3"; then
+        ok "$1"
+    else
+        bad "$1"
+        diff "$2" "$3" | head -10
+    fi
+}
+
+# counted NAME FILE STATUS: adds the counts of a program's last line, 'N passed, M failed'.
+counted() {
+    counts=$(tail -1 "$2" | sed -n 's/^\([0-9]*\) passed, \([0-9]*\) failed$/\1 \2/p')
+    if [ -z "$counts" ]; then
+        bad "$1 ended with status $3 and no counts"
+        return
+    fi
+    passed=$((passed + ${counts% *}))
+    failed=$((failed + ${counts#* }))
+    if [ "$3" -ne 0 ] && [ "${counts#* }" -eq 0 ]; then
+        bad "$1 ended with status $3"
+    fi
+}
+
+# ---- the library
+
+if [ -n "${BAY_ARCHIVE:-}" ]; then
+    archive=$BAY_ARCHIVE
+else
+    archive=$root/target/staticlib/libbay.a
+    if rt staticlib bay >"$work/staticlib" 2>&1; then
+        ok "rt staticlib bay"
+    else
+        tail -5 "$work/staticlib"
+        bad "rt staticlib bay"
+        finish
+    fi
+fi
+
+# ---- the engine on the paper's own cases, and the comparisons
+
+(cd tests && cargo test --offline -j1 --lib -q) >"$work/units" 2>&1
+counts=$(sed -n 's/^test result: .* \([0-9]*\) passed; \([0-9]*\) failed;.*/\1 \2/p' "$work/units")
+if [ -n "$counts" ]; then
+    passed=$((passed + ${counts% *}))
+    failed=$((failed + ${counts#* }))
+    echo "engine: ${counts% *} passed, ${counts#* } failed"
+    [ "${counts#* }" -eq 0 ] || cat "$work/units"
+else
+    cat "$work/units"
+    bad "cargo test"
+fi
+
+if (cd tests && cargo build --offline -j1 --release -q) >"$work/build" 2>&1; then
+    ok "cargo build"
+else
+    cat "$work/build"
+    bad "cargo build"
+    finish
+fi
+programs=$CARGO_TARGET_DIR/release
+
+"$programs/compare" >"$work/compare" 2>&1
+status=$?
+cat "$work/compare"
+counted compare "$work/compare" $status
+
+bayplan=$root/target/bin/bayplan
+if [ -x "$bayplan" ]; then
+    "$programs/bayplan_compare" "$bayplan" "$work/folders" >"$work/bayplan" 2>&1
+    status=$?
+    cat "$work/bayplan"
+    counted bayplan_compare "$work/bayplan" $status
+else
+    bad "target/bin/bayplan is not there"
+fi
+
+# ---- the examples
+
+"$programs/make_examples" "$work/examples"
+for folder in trailer truck_two_axles no_way damaged_table; do
+    for file in bay.tab start.bay expected.txt; do
+        same "examples/$folder/$file as made" "examples/$folder/$file" "$work/examples/$folder/$file"
+    done
+    if [ -x "$bayplan" ]; then
+        (cd "examples/$folder" && "$bayplan") >"$work/printed" 2>&1
+        same "bayplan in examples/$folder" "examples/$folder/expected.txt" "$work/printed"
+    fi
+done
+
+compiler=
+for each in gcc cc; do
+    if [ -z "$compiler" ] && command -v $each >/dev/null 2>&1; then
+        compiler=$each
+    fi
+done
+if [ -z "$compiler" ]; then
+    bad "no C compiler is here"
+    finish
+fi
+
+for program in plan stack; do
+    if $compiler -std=c99 -Wall -Wextra -Werror -O1 -Iinclude examples/c/$program.c "$archive" -o "$work/$program"; then
+        ok "examples/c/$program.c is compiled"
+    else
+        bad "examples/c/$program.c is compiled"
+    fi
+done
+"$work/plan" >"$work/printed" 2>&1
+same "examples/c/plan" examples/c/expected_plan.txt "$work/printed"
+for folder in truck_two_axles no_way damaged_table; do
+    "$work/plan" examples/$folder/bay.tab examples/$folder/start.bay >"$work/printed" 2>&1
+    same "examples/c/plan on $folder" examples/c/expected_plan_$folder.txt "$work/printed"
+done
+(ulimit -s 256 && "$work/stack") >"$work/printed" 2>&1
+same "examples/c/stack on a stack of 256 KiB" examples/c/expected_stack.txt "$work/printed"
+
+if command -v python3 >/dev/null 2>&1; then
+    if $compiler -shared -o "$work/libbay.so" -Wl,--whole-archive "$archive" -Wl,--no-whole-archive; then
+        ok "a shared object of the library"
+        python3 -B examples/python/plan.py "$work/libbay.so" >"$work/printed" 2>&1
+        same "examples/python/plan.py" examples/python/expected_plan.txt "$work/printed"
+    else
+        bad "a shared object of the library"
+    fi
+else
+    echo "python3 is not here: its example is not run"
+fi
+
+finish

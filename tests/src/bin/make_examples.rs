@@ -1,0 +1,74 @@
+//! Writes the files of the example folders: bay.tab, start.bay and expected.txt, which is what `bayplan` prints there.
+//!
+//!     make_examples FOLDER
+
+use std::fs;
+use std::path::Path;
+
+use bay_tests::engine::{bayplan, table_bytes, Job};
+use bay_tests::trailer;
+
+/// A truck with two axles, driven at the rear.
+mod truck {
+    pub const FACTS: u8 = 11;
+    pub const ON_THE_FLOOR: u64 = 1 << 0;
+    pub const FRONT_ON_ROLLERS: u64 = 1 << 1;
+    pub const REAR_ON_ROLLERS: u64 = 1 << 2;
+    pub const TYRES_CHECKED: u64 = 1 << 3;
+    pub const FRONT_MEASURED: u64 = 1 << 4;
+    pub const REAR_MEASURED: u64 = 1 << 5;
+    pub const PULSES_MEASURED: u64 = 1 << 6;
+    pub const OLD_SEAL_ON: u64 = 1 << 7;
+    pub const SEAL_OFF: u64 = 1 << 8;
+    pub const CONSTANT_SET: u64 = 1 << 9;
+    pub const SEALED: u64 = 1 << 10;
+}
+
+fn truck_jobs() -> Vec<Job> {
+    use truck::*;
+    let job = |needs, adds, deletes, seconds| Job { needs, adds, deletes, seconds };
+    vec![
+        job(ON_THE_FLOOR, TYRES_CHECKED, 0, 300),
+        job(ON_THE_FLOOR, FRONT_ON_ROLLERS, ON_THE_FLOOR, 240),
+        job(ON_THE_FLOOR, REAR_ON_ROLLERS, ON_THE_FLOOR, 240),
+        job(FRONT_ON_ROLLERS, ON_THE_FLOOR, FRONT_ON_ROLLERS, 120),
+        job(REAR_ON_ROLLERS, ON_THE_FLOOR, REAR_ON_ROLLERS, 120),
+        job(FRONT_ON_ROLLERS | TYRES_CHECKED, FRONT_MEASURED, 0, 420),
+        job(REAR_ON_ROLLERS | TYRES_CHECKED, REAR_MEASURED, 0, 420),
+        job(REAR_ON_ROLLERS | REAR_MEASURED, PULSES_MEASURED, 0, 480),
+        job(OLD_SEAL_ON, SEAL_OFF, OLD_SEAL_ON, 90),
+        job(FRONT_MEASURED | PULSES_MEASURED | SEAL_OFF, CONSTANT_SET, 0, 360),
+        job(CONSTANT_SET | SEAL_OFF | ON_THE_FLOOR, SEALED, SEAL_OFF, 150),
+    ]
+}
+
+fn write(root: &Path, name: &str, table: &[u8], start: &[u8]) {
+    let folder = root.join(name);
+    fs::create_dir_all(&folder).expect("the folder can be made");
+    let text = bayplan(table, start);
+    for (file, bytes) in [("bay.tab", table), ("start.bay", start), ("expected.txt", text.as_bytes())] {
+        fs::write(folder.join(file), bytes).expect("the file can be written");
+    }
+}
+
+fn main() {
+    let Some(root) = std::env::args().nth(1) else {
+        eprintln!("make_examples FOLDER");
+        std::process::exit(2);
+    };
+    let root = Path::new(&root);
+    let trailer_table = trailer::table();
+    write(root, "trailer", &trailer_table, &trailer::start(0x02, 0));
+
+    let truck_table = table_bytes(truck::FACTS, &truck_jobs(), truck::SEALED);
+    let arrives = truck::ON_THE_FLOOR | truck::OLD_SEAL_ON;
+    write(root, "truck_two_axles", &truck_table, &trailer::start(arrives, 0));
+
+    // The same truck without an old seal: only taking one off leads to a sealed truck.
+    write(root, "no_way", &truck_table, &trailer::start(truck::ON_THE_FLOOR, 0));
+
+    // Measuring unloaded adds fact 5, which a table of five facts has not.
+    let mut damaged = trailer_table;
+    damaged[56 + 9] |= 0x20;
+    write(root, "damaged_table", &damaged, &trailer::start(0x02, 0));
+}

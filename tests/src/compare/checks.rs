@@ -1,0 +1,251 @@
+//! One call of the library beside the engine: the answers must agree, and so must everything lent, whole.
+//!
+//! The library gets copies of the inputs, which must come back unchanged. A difference panics with the case.
+
+use bay_tests::engine::{self, Card, Columns, Job, Lent, Planned, Refusal, Status, Table, Ticked, Unwritten};
+
+use crate::ffi;
+
+use std::cell::RefCell;
+use std::collections::BTreeMap;
+
+thread_local! {
+    /// How often each function gave each number.
+    static REACHED: RefCell<BTreeMap<(&'static str, u64), u64>> = const { RefCell::new(BTreeMap::new()) };
+}
+
+fn reached(function: &'static str, number: u64) {
+    REACHED.with(|counts| *counts.borrow_mut().entry((function, number)).or_insert(0) += 1);
+}
+
+/// The numbers that each function can give.
+const NUMBERS: [(&str, &[u64]); 8] = [
+    ("read_table", &[0, 1, 2, 3, 4, 5, 6, 7]),
+    ("read_job", &[0, 1, 2, 3, 4, 5, 6, 7, 16]),
+    ("write_table", &[0, 3, 4, 5, 6, ffi::TOO_SHORT, ffi::UNEVEN]),
+    ("plan", &[0, 1, 2, 3, 4, 5, 6, 7, 8, 9, 10, 11, 12]),
+    ("tick", &[0, 1, 2, 3, 4, 5, 6, 7, 8, 13, 14, 15]),
+    ("open", &[0, 1, 2, 3, 4, 5, 6, 7, 8]),
+    ("read_outside", &[0, 1, 2, 3, 4, 5, 6, 7, 8]),
+    ("report", &[0, 1, 2, 3, 4, 5, 6, 7, 8, 16, 17, 18]),
+];
+
+/// The last group: every function gave every number that it can, and no other.
+pub fn every_number_reached() -> Result<(), String> {
+    let counts = REACHED.with(|counts| counts.borrow().clone());
+    for (function, numbers) in NUMBERS {
+        let given: Vec<u64> = counts.keys().filter(|key| key.0 == function).map(|key| key.1).collect();
+        if given != numbers {
+            return Err(format!("{function} gave {given:?}, and not {numbers:?}"));
+        }
+        let shown: Vec<String> =
+            numbers.iter().map(|number| format!("{number}: {}", counts[&(function, *number)])).collect();
+        println!("  {function} gave {}", shown.join(", "));
+    }
+    Ok(())
+}
+
+fn hex(bytes: &[u8]) -> String {
+    const SHOWN: usize = 600;
+    let digits: String = bytes.iter().take(SHOWN).map(|byte| format!("{byte:02x}")).collect();
+    if bytes.len() > SHOWN {
+        format!("{digits}.. ({} bytes)", bytes.len())
+    } else {
+        digits
+    }
+}
+
+fn refused<const N: usize>(refusal: &Refusal) -> [u64; N] {
+    let mut words = [0; N];
+    words[0] = refusal.number;
+    words[1] = refusal.place as u64;
+    words
+}
+
+#[track_caller]
+fn same<T: PartialEq + std::fmt::Debug>(library: T, engine: T, case: impl Fn() -> String) {
+    if library != engine {
+        panic!("{}\n  library {library:x?}\n  engine  {engine:x?}", case());
+    }
+}
+
+/// The first place where two rows differ, for a message that can be read.
+fn first_difference<T: PartialEq + std::fmt::Debug>(name: &str, library: &[T], engine: &[T]) -> Option<String> {
+    let at = (0..library.len()).find(|i| library[*i] != engine[*i])?;
+    Some(format!("{name}[{at}] of {}: library {:x?}, engine {:x?}", library.len(), library[at], engine[at]))
+}
+
+pub fn read_table(bytes: &[u8]) -> Result<Table, Refusal> {
+    let result = engine::read_table(bytes);
+    let expected = match &result {
+        Ok(table) => [0, u64::from(table.facts), table.jobs.len() as u64, table.goal],
+        Err(refusal) => refused(refusal),
+    };
+    let copy = bytes.to_vec();
+    let case = || format!("read_table {}", hex(bytes));
+    reached("read_table", expected[0]);
+    same(ffi::read_table(&copy), expected, case);
+    same(copy.as_slice(), bytes, case);
+    result
+}
+
+pub fn read_job(bytes: &[u8], number: usize) -> Result<Job, Refusal> {
+    let result = engine::read_job(bytes, number);
+    let expected = match &result {
+        Ok(job) => [0, job.needs, job.adds, job.deletes, u64::from(job.seconds)],
+        Err(refusal) => refused(refusal),
+    };
+    let copy = bytes.to_vec();
+    let case = || format!("read_job {} job {number}", hex(bytes));
+    reached("read_job", expected[0]);
+    same(ffi::read_job(&copy, number), expected, case);
+    same(copy.as_slice(), bytes, case);
+    result
+}
+
+pub fn write_table(
+    facts: u8,
+    columns: &Columns,
+    goal: u64,
+    out_len: usize,
+    pattern: u64,
+) -> (Result<usize, Unwritten>, Vec<u8>) {
+    let mut out = Lent::filled([0, 0, 0, 0, out_len], pattern).tree;
+    let mut library_out = out.clone();
+    let result = engine::write_table(facts, columns, goal, &mut out);
+    let expected = match &result {
+        Ok(written) => [0, *written as u64],
+        Err(Unwritten::Refused(refusal)) => refused(refusal),
+        Err(Unwritten::TooShort(wanted)) => [ffi::TOO_SHORT, *wanted as u64],
+        Err(Unwritten::Uneven) => [ffi::UNEVEN, 0],
+    };
+    let case = || format!("write_table facts {facts} {columns:x?} goal {goal:x} out {out_len}");
+    reached("write_table", expected[0]);
+    same(ffi::write_table(facts, columns, goal, &mut library_out), expected, case);
+    if let Some(difference) = first_difference("out", &library_out, &out) {
+        panic!("{}\n  {difference}", case());
+    }
+    (result, out)
+}
+
+/// Plans into slices of these lengths: conditions, jobs, parents, depths, tree.
+pub fn plan(
+    table: &[u8],
+    held: u64,
+    unread: u64,
+    lengths: [usize; 5],
+    pattern: u64,
+) -> (Result<Planned, Refusal>, Lent) {
+    let mut lent = Lent::filled(lengths, pattern);
+    let mut library_lent = lent.clone();
+    let result = engine::plan(table, held, unread, &mut lent);
+    let expected = match &result {
+        Ok(planned) => {
+            [0, planned.entries as u64, planned.tree_bytes as u64, planned.way_jobs as u64, planned.way_minutes as u64]
+        }
+        Err(refusal) => refused(refusal),
+    };
+    let copy = table.to_vec();
+    let case = || format!("plan {} held {held:x} unread {unread:x} lent {lengths:?}", hex(table));
+    reached("plan", expected[0]);
+    same(ffi::plan(&copy, held, unread, &mut library_lent), expected, case);
+    same(copy.as_slice(), table, case);
+    let differences = [
+        first_difference("conditions", &library_lent.conditions, &lent.conditions),
+        first_difference("jobs", &library_lent.jobs, &lent.jobs),
+        first_difference("parents", &library_lent.parents, &lent.parents),
+        first_difference("depths", &library_lent.depths, &lent.depths),
+        first_difference("tree", &library_lent.tree, &lent.tree),
+    ];
+    if let Some(difference) = differences.into_iter().flatten().next() {
+        panic!("{}\n  {difference}", case());
+    }
+    (result, lent)
+}
+
+pub fn tick_words(result: &Result<Ticked, Refusal>) -> [u64; 3] {
+    match result {
+        Ok(ticked) => match ticked.status {
+            Status::Success => [0, ffi::SUCCESS, 0],
+            Status::Failure => [0, ffi::FAILURE, 0],
+            Status::Running(job) => [0, ffi::RUNNING, u64::from(job)],
+            Status::Unsettled(mask) => [0, ffi::UNSETTLED, mask],
+        },
+        Err(refusal) => refused(refusal),
+    }
+}
+
+pub fn tick(table: &[u8], tree: &[u8], held: u64, unread: u64) -> Result<Ticked, Refusal> {
+    let result = engine::tick(table, tree, held, unread);
+    let expected = tick_words(&result);
+    let (table_copy, tree_copy) = (table.to_vec(), tree.to_vec());
+    let case = || format!("tick table {} tree {} held {held:x} unread {unread:x}", hex(table), hex(tree));
+    reached("tick", expected[0]);
+    same(ffi::tick(&table_copy, &tree_copy, held, unread), expected, case);
+    same((table_copy.as_slice(), tree_copy.as_slice()), (table, tree), case);
+    result
+}
+
+/// One call over a card: the library's card starts as `card` does, and must end as it does.
+fn over_card(
+    function: &'static str,
+    table: &[u8],
+    card: &mut Card,
+    operands: impl Fn() -> String,
+    by_engine: impl Fn(&[u8], &mut Card) -> Result<(), Refusal>,
+    by_library: impl Fn(&[u8], &mut Card) -> [u64; 2],
+) -> Result<(), Refusal> {
+    let before = *card;
+    let mut library_card = before;
+    let result = by_engine(table, card);
+    let expected = match &result {
+        Ok(()) => [0, 0],
+        Err(refusal) => refused(refusal),
+    };
+    let copy = table.to_vec();
+    let case = || format!("{function} {} table {} card {before:x?}", operands(), hex(table));
+    reached(function, expected[0]);
+    same(by_library(&copy, &mut library_card), expected, case);
+    same(library_card, *card, case);
+    same(copy.as_slice(), table, case);
+    result
+}
+
+pub fn open(table: &[u8], held: u64, unread: u64, card: &mut Card) -> Result<(), Refusal> {
+    over_card(
+        "open",
+        table,
+        card,
+        || format!("held {held:x} unread {unread:x}"),
+        |table, card| engine::open(table, held, unread, card),
+        |table, card| ffi::open(table, held, unread, card),
+    )
+}
+
+pub fn read_outside(table: &[u8], held: u64, unread: u64, card: &mut Card) -> Result<(), Refusal> {
+    over_card(
+        "read_outside",
+        table,
+        card,
+        || format!("held {held:x} unread {unread:x}"),
+        |table, card| engine::read_outside(table, held, unread, card),
+        |table, card| ffi::read_outside(table, held, unread, card),
+    )
+}
+
+pub fn report(table: &[u8], job: u8, seconds: u16, card: &mut Card) -> Result<(), Refusal> {
+    over_card(
+        "report",
+        table,
+        card,
+        || format!("job {job} seconds {seconds}"),
+        |table, card| engine::report(table, job, seconds, card),
+        |table, card| ffi::report(table, job, seconds, card),
+    )
+}
+
+pub fn lateness(taken: u32, planned: u32) -> i64 {
+    let expected = engine::lateness(taken, planned);
+    same(ffi::lateness(taken, planned), expected, || format!("lateness taken {taken} planned {planned}"));
+    expected
+}

@@ -1,0 +1,153 @@
+//! The job card.
+
+use bay_tests::engine::*;
+use bay_tests::random::Random;
+
+use super::checks;
+use super::make;
+use super::Group;
+
+pub fn groups() -> Vec<Group> {
+    vec![
+        Group { name: "cards_sound_and_unsound", cases: 60_000, run: any_card },
+        Group { name: "cards_refused", cases: 30_000, run: refused },
+        Group { name: "cards_through_a_plan", cases: 6_000, run: through_a_plan },
+        Group { name: "card_of_65535_reports", cases: 1, run: most_reports },
+        Group { name: "lateness", cases: 2_000, run: lateness },
+    ]
+}
+
+fn sum(random: &mut Random, reports: u16) -> u32 {
+    let bound = 65_535 * u32::from(reports);
+    match random.below(8) {
+        0 => 0,
+        1 => bound,
+        2 => bound.saturating_add(1),
+        3 => random.next() as u32,
+        4 => u32::MAX,
+        _ => (random.next() % (u64::from(bound) + 1)) as u32,
+    }
+}
+
+fn card(random: &mut Random, facts: u32) -> Card {
+    let (held, unread) = if random.one_in(4) { make::any_reading(random, facts) } else { make::reading(random, facts) };
+    let any = random.next() as u16;
+    let reports = *random.pick(&[0, 1, 2, 65_533, 65_534, 65_535, any]);
+    let (taken, planned) = (sum(random, reports), sum(random, reports));
+    Card { held, unread, reports, taken, planned }
+}
+
+fn any_card(random: &mut Random, _: u64) {
+    let table = make::table(random, 64, 6);
+    let bytes = make::bytes_of(&table);
+    let mut card = card(random, table.facts);
+    for _ in 0..4 {
+        let number = random.below(table.jobs.len() + 1) as u8;
+        let number = if random.one_in(12) { random.byte() } else { number };
+        let seconds = *random.pick(&[0, 1, 600, 65_535]);
+        if random.one_in(3) {
+            // Hold its needs, so that reports are often taken.
+            if let Some(job) = table.jobs.get(usize::from(number)) {
+                card.held |= job.needs;
+                card.unread &= !job.needs;
+            }
+        }
+        let _ = checks::report(&bytes, number, seconds, &mut card);
+        checks::lateness(card.taken, card.planned);
+        if random.one_in(3) {
+            let (held, unread) = make::any_reading(random, table.facts);
+            // The old masks and the counts are not judged then.
+            let taken = checks::read_outside(&bytes, held, unread, &mut card).is_ok();
+            assert_eq!(taken, held & unread == 0 && is_part(held | unread, all_facts(table.facts)));
+        }
+        if random.one_in(9) {
+            let (held, unread) = make::any_reading(random, table.facts);
+            let _ = checks::open(&bytes, held, unread, &mut card);
+        }
+    }
+}
+
+fn refused(random: &mut Random, _: u64) {
+    let table = make::table(random, 64, 4);
+    let bytes = make::damaged_bytes(random, &table);
+    let mut card = card(random, table.facts);
+    let (held, unread) = make::any_reading(random, table.facts);
+    match random.below(3) {
+        0 => drop(checks::open(&bytes, held, unread, &mut card)),
+        1 => drop(checks::read_outside(&bytes, held, unread, &mut card)),
+        _ => drop(checks::report(&bytes, random.byte(), 1, &mut card)),
+    }
+}
+
+/// A vehicle from its opening to the goal: tick by card, report, and read what a tick asks for.
+fn through_a_plan(random: &mut Random, _: u64) {
+    let facts = random.between(3, 7) as u32;
+    let table = make::busy_table(random, facts);
+    let bytes = make::bytes_of(&table);
+    let mut state = random.state(table.facts);
+    let (result, lent) = checks::plan(&bytes, state, 0, [200, 200, 200, 200, 2_800], state);
+    let Ok(planned) = result else { return };
+    let tree = &lent.tree[..planned.tree_bytes];
+    let unread = random.state(table.facts);
+    let mut card = Card { held: 9, unread: 9, reports: 9, taken: 9, planned: 9 };
+    checks::open(&bytes, state & !unread, unread, &mut card).expect("a sound reading");
+    let mut listed = 0;
+    loop {
+        match checks::tick(&bytes, tree, card.held, card.unread).expect("a sound tree and card").status {
+            Status::Success => break,
+            Status::Failure => panic!("a covered state does not fail"),
+            Status::Running(number) => {
+                let seconds = random.next() as u16;
+                let job = table.jobs[usize::from(number)];
+                checks::report(&bytes, number, seconds, &mut card).expect("a named job is applicable");
+                state = job.finish(state);
+                listed += u32::from(job.seconds);
+            }
+            Status::Unsettled(mask) => {
+                let (held, unread) = (card.held | (state & mask), card.unread & !mask);
+                checks::read_outside(&bytes, held, unread, &mut card).expect("a sound reading");
+            }
+        }
+        assert_eq!(card.held, state & !card.unread);
+    }
+    assert_eq!(usize::from(card.reports), planned.way_jobs);
+    assert_eq!(minutes(i64::from(listed)), planned.way_minutes);
+    assert_eq!(card.planned, listed);
+    checks::lateness(card.taken, card.planned);
+}
+
+/// A card takes 65,535 reports, each of the most seconds, and then 18.
+fn most_reports(_: &mut Random, _: u64) {
+    let jobs = [Job { needs: 1, adds: 2, deletes: 0, seconds: 65_535 }];
+    let bytes = table_bytes(2, &jobs, 2);
+    let mut card = Card::default();
+    checks::open(&bytes, 1, 2, &mut card).expect("a sound reading");
+    for _ in 0..65_535 {
+        checks::report(&bytes, 0, 65_535, &mut card).expect("a report within the bounds");
+    }
+    assert_eq!((card.reports, card.taken, card.planned), (65_535, 4_294_836_225, 4_294_836_225));
+    let refusal = checks::report(&bytes, 0, 0, &mut card).expect_err("the card is full");
+    assert_eq!((refusal.number, refusal.place), (18, 0));
+}
+
+fn lateness(random: &mut Random, index: u64) {
+    let ends = [0, 1, 29, 30, 31, 89, 90, 91, u32::MAX - 90, u32::MAX - 31, u32::MAX - 30, u32::MAX - 1, u32::MAX];
+    if index == 0 {
+        for taken in ends {
+            for planned in ends {
+                checks::lateness(taken, planned);
+            }
+        }
+        assert_eq!(checks::lateness(u32::MAX, 0), 71_582_788);
+        assert_eq!(checks::lateness(0, u32::MAX), -71_582_788);
+        assert_eq!((checks::lateness(30, 0), checks::lateness(0, 30)), (1, -1));
+        assert_eq!((checks::lateness(29, 0), checks::lateness(0, 29)), (0, 0));
+    }
+    for _ in 0..40 {
+        let planned = random.next() as u32;
+        let difference = random.below(400) as u32;
+        checks::lateness(planned.saturating_add(difference), planned);
+        checks::lateness(planned.saturating_sub(difference), planned);
+        checks::lateness(random.next() as u32, planned);
+    }
+}

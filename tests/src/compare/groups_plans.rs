@@ -1,0 +1,329 @@
+//! The plan, and whole runs against brute force.
+
+use bay_tests::engine::*;
+use bay_tests::random::Random;
+use bay_tests::trailer;
+
+use super::checks;
+use super::make;
+use super::Group;
+
+pub fn groups() -> Vec<Group> {
+    vec![
+        Group { name: "marked_cases", cases: 11, run: marked_cases },
+        Group { name: "plans_small", cases: 60_000, run: small },
+        Group { name: "plans_at_each_capacity", cases: 4_000, run: each_capacity },
+        Group { name: "plans_of_many_jobs", cases: 600, run: many_jobs },
+        Group { name: "plans_long", cases: 12, run: long },
+        Group { name: "plans_refused", cases: 40_000, run: refused },
+        Group { name: "runs_have_fewest_jobs", cases: 600, run: fewest_jobs },
+        Group { name: "runs_long", cases: 12, run: long_runs },
+        Group { name: "no_way_means_none", cases: 1_500, run: no_way },
+    ]
+}
+
+fn full() -> [usize; 5] {
+    [MOST_ENTRIES, MOST_ENTRIES, MOST_ENTRIES, MOST_ENTRIES, MOST_TREE_BYTES]
+}
+
+fn lists(capacity: usize, tree: usize) -> [usize; 5] {
+    [capacity, capacity, capacity, capacity, tree]
+}
+
+fn list_of(lent: &Lent, entries: usize) -> Vec<Entry> {
+    (0..entries)
+        .map(|i| Entry {
+            condition: lent.conditions[i],
+            job: lent.jobs[i],
+            parent: lent.parents[i],
+            depth: lent.depths[i],
+        })
+        .collect()
+}
+
+/// The cases that the paper prints, with its numbers.
+fn marked_cases(_: &mut Random, index: u64) {
+    let table = trailer::table();
+    let plan = |held, capacity| {
+        let (result, lent) = checks::plan(&table, held, 0, lists(capacity, MOST_TREE_BYTES), index);
+        (result.map_err(|refusal| (refusal.number, refusal.place)), lent)
+    };
+    let (p1, lent) = plan(0x02, 4096);
+    let p1 = p1.expect("P1 is a plan");
+    let tree = lent.tree[..p1.tree_bytes].to_vec();
+    let tick = |held, unread| checks::tick(&table, &tree, held, unread).expect("P1's tree is sound").status;
+    match index {
+        0 => {
+            let mut text = format!("plan {} {}\n", p1.entries, p1.tree_bytes);
+            for (i, entry) in list_of(&lent, p1.entries).iter().enumerate() {
+                let job = if entry.job == NO_JOB { "-".into() } else { entry.job.to_string() };
+                text += &format!("{i} {:016x} {job} {} {}\n", entry.condition, entry.parent, entry.depth);
+            }
+            text += &format!("way {} {}\n", p1.way_jobs, p1.way_minutes);
+            assert_eq!(text, trailer::PRINTED);
+        }
+        1 => {
+            let p2 = plan(0x01, 4096).0.expect("P2 is a plan");
+            assert_eq!((p2.entries, p2.way_jobs), (9, 4));
+        }
+        2 => assert_eq!(plan(0x08, 9).0, Err((11, 9))),
+        3 => assert_eq!(plan(0x08, 8).0, Err((10, 8))),
+        4 => {
+            let p5 = plan(0x10, 4096).0.expect("P5 is a plan");
+            assert_eq!((p5.entries, p5.tree_bytes, p5.way_jobs), (1, 13, 0));
+        }
+        5 => assert_eq!(plan(0x02, 0).0, Err((10, 0))),
+        6 => assert_eq!(tick(0x02, 0x01), Status::Unsettled(0x01)),
+        7 => assert_eq!(tick(0x02, 0x08), Status::Unsettled(0x08)),
+        8 => assert_eq!(tick(0x03, 0), Status::Running(3)),
+        9 => assert_eq!(tick(0x08, 0), Status::Failure),
+        _ => {
+            let parsed = read_table(&table).expect("sound");
+            assert_eq!(run(&table, &parsed, &tree, 0x02), (vec![3, 1, 2, 4], true));
+        }
+    }
+}
+
+/// Random small tables into slices of any length.
+fn small(random: &mut Random, index: u64) {
+    let facts = random.between(3, 8) as u32;
+    let table = if index % 2 == 0 { make::busy_table(random, facts) } else { make::table(random, 9, 9) };
+    let bytes = make::bytes_of(&table);
+    let start = random.state(table.facts);
+    let most = *random.pick(&[3, 10, 40]);
+    let mut lengths = [0; 5];
+    for length in &mut lengths {
+        *length = random.below(most + 1);
+    }
+    lengths[4] = random.below(14 * most);
+    let _ = checks::plan(&bytes, start, 0, lengths, random.next());
+    let spare = random.below(9);
+    let _ = checks::plan(&bytes, start, 0, lists(120 + spare, 2_000), random.next());
+}
+
+/// Every capacity around the need, each table the shortest in turn, and the tree around its need.
+fn each_capacity(random: &mut Random, index: u64) {
+    let facts = random.between(3, 8) as u32;
+    let table = if index % 2 == 0 { make::busy_table(random, facts) } else { make::table(random, 8, 9) };
+    let bytes = make::bytes_of(&table);
+    let start = random.state(table.facts);
+    let (list, ending) = expand(&table, start, MOST_ENTRIES);
+    let n = list.len();
+    let need = 14 * n - 1;
+    for capacity in n.saturating_sub(3)..=n + 2 {
+        for shortest in 0..4 {
+            let mut lengths = lists(0, need + random.below(3));
+            for length in &mut lengths[..4] {
+                *length = capacity + random.below(4);
+            }
+            lengths[shortest] = capacity;
+            let (result, _) = checks::plan(&bytes, start, 0, lengths, random.next());
+            if let (Err(refusal), Ending::Covered) = (result, ending) {
+                assert_eq!((refusal.number, refusal.place), (10, capacity));
+                assert!(capacity < n);
+            }
+        }
+    }
+    for tree in [0, 1, need.saturating_sub(14), need - 1, need, need + 1, need + 40] {
+        let (result, _) = checks::plan(&bytes, start, 0, lists(n + random.below(3), tree), random.next());
+        if ending == Ending::Covered {
+            assert_eq!(result.is_ok(), tree >= need);
+            assert!(result.is_ok() || result.unwrap_err() == Refusal { number: 12, place: n });
+        }
+    }
+    let _ = checks::plan(&bytes, start, 0, [0, 0, 0, 0, 0], 0);
+}
+
+/// Tables of up to 128 jobs over many facts.
+fn many_jobs(random: &mut Random, _: u64) {
+    let facts = random.between(6, 64) as u32;
+    let jobs = (0..random.between(20, 128)).map(|_| make::job(random, facts)).collect();
+    let table = Table { facts, jobs, goal: random.facts(facts, 3) };
+    let bytes = make::bytes_of(&table);
+    for capacity in [300, 150] {
+        let start = random.state(facts) & random.state(facts);
+        let _ = checks::plan(&bytes, start, 0, lists(capacity, 14 * capacity), random.next());
+    }
+}
+
+/// Lists of 4,096 entries, and those that would be longer.
+fn long(random: &mut Random, index: u64) {
+    let (table, start) = make::long_table(12, 4 * (index as usize % 3));
+    let bytes = make::bytes_of(&table);
+    let (longer, longer_start) = make::long_table(13, 0);
+    let longer_bytes = make::bytes_of(&longer);
+    let need = 14 * MOST_ENTRIES - 1;
+    let number = |result: Result<Planned, Refusal>| result.map_err(|refusal| (refusal.number, refusal.place));
+    match index {
+        0 => {
+            let (result, _) = checks::plan(&bytes, start, 0, full(), random.next());
+            let planned = result.expect("a plan of 4,096 entries");
+            assert_eq!((planned.entries, planned.tree_bytes, planned.way_jobs), (4096, 57_343, 12));
+        }
+        1 => {
+            // The bound of 4,096 counts even where more is lent.
+            let (result, _) = checks::plan(&longer_bytes, longer_start, 0, lists(5_000, 70_000), random.next());
+            assert_eq!(number(result), Err((10, 4096)));
+        }
+        2 => {
+            let (result, _) = checks::plan(&bytes, 0, 0, lists(4_100, need), random.next());
+            assert_eq!(number(result), Err((11, 4096)));
+        }
+        3 => {
+            let (result, _) = checks::plan(&bytes, start, 0, lists(4_095, need), random.next());
+            assert_eq!(number(result), Err((10, 4095)));
+        }
+        4 => {
+            let (result, _) = checks::plan(&bytes, start, 0, lists(4_096, need - 1), random.next());
+            assert_eq!(number(result), Err((12, 4096)));
+        }
+        5 => {
+            let (result, _) = checks::plan(&bytes, start, 0, lists(4_096, need), random.next());
+            assert!(result.is_ok());
+        }
+        _ => {
+            let mut lengths = lists(4_096, need + 3);
+            lengths[index as usize % 4] = random.between(4_000, 4_200);
+            let _ = checks::plan(&bytes, start, 0, lengths, random.next());
+            let _ = checks::plan(&longer_bytes, random.state(longer.facts), 0, lengths, random.next());
+        }
+    }
+}
+
+/// Tables and readings with faults, one or several at once.
+fn refused(random: &mut Random, _: u64) {
+    let table = make::table(random, 8, 6);
+    let bytes = if random.one_in(2) { make::damaged_bytes(random, &table) } else { make::bytes_of(&table) };
+    let (held, unread) = make::any_reading(random, table.facts);
+    let lengths = lists(random.below(20), random.below(200));
+    let _ = checks::plan(&bytes, held, unread, lengths, random.next());
+}
+
+/// For every state, the fewest jobs that lead to the goal, by brute force over all states.
+fn distances(table: &Table) -> Vec<Option<usize>> {
+    let states = 1usize << table.facts;
+    let mut distance: Vec<Option<usize>> =
+        (0..states).map(|state| is_part(table.goal, state as u64).then_some(0)).collect();
+    for length in 1.. {
+        let mut grown = false;
+        for state in 0..states {
+            let reaches = |job: &Job| {
+                job.is_applicable(state as u64)
+                    && distance[job.finish(state as u64) as usize].is_some_and(|rest| rest + 1 == length)
+            };
+            if distance[state].is_none() && table.jobs.iter().any(reaches) {
+                distance[state] = Some(length);
+                grown = true;
+            }
+        }
+        if !grown {
+            break;
+        }
+    }
+    distance
+}
+
+/// The jobs of a run from a state, and whether it ends with Success; a job that is not applicable ends it too.
+fn run(bytes: &[u8], table: &Table, tree: &[u8], state: u64) -> (Vec<u8>, bool) {
+    let mut jobs = Vec::new();
+    let mut state = state;
+    loop {
+        match checks::tick(bytes, tree, state, 0).map(|ticked| ticked.status) {
+            Ok(Status::Success) => return (jobs, true),
+            Ok(Status::Running(number)) => {
+                let job = &table.jobs[usize::from(number)];
+                if !job.is_applicable(state) {
+                    return (jobs, false);
+                }
+                jobs.push(number);
+                state = job.finish(state);
+            }
+            _ => return (jobs, false),
+        }
+        assert!(jobs.len() <= MOST_ENTRIES, "the run does not end");
+    }
+}
+
+/// Demand 3: from every state that a plan covers, the run ends with Success after the fewest jobs.
+fn fewest_jobs(random: &mut Random, index: u64) {
+    let facts = random.between(3, 5) as u32;
+    let table = match index {
+        0 => read_table(&trailer::table()).expect("sound"),
+        1 | 2 => make::counter_table(index as usize + 1, 65_535).0,
+        _ if index % 8 == 4 => make::busy_table(random, 6),
+        _ if index % 2 == 0 => make::busy_table(random, facts),
+        _ => make::table(random, 5, 8),
+    };
+    let bytes = make::bytes_of(&table);
+    let distance = distances(&table);
+    let states = 1u64 << table.facts;
+    for start in 0..states {
+        let (result, lent) = checks::plan(&bytes, start, 0, lists(100, 1_400), start);
+        let planned = match result {
+            Ok(planned) => planned,
+            Err(refusal) => {
+                assert_eq!(refusal.number, 11);
+                assert_eq!(distance[start as usize], None, "no way is said, but there is one from {start:x}");
+                continue;
+            }
+        };
+        let list = list_of(&lent, planned.entries);
+        let tree = &lent.tree[..planned.tree_bytes];
+        for state in 0..states {
+            let first_met = list.iter().find(|entry| is_part(entry.condition, state));
+            let (jobs, success) = run(&bytes, &table, tree, state);
+            match first_met {
+                Some(entry) => {
+                    assert!(success, "the run from {state:x} does not reach the goal");
+                    assert_eq!(Some(jobs.len()), distance[state as usize], "jobs of the run from {state:x}");
+                    assert_eq!(jobs.len(), usize::from(entry.depth));
+                }
+                None => assert_eq!((jobs.len(), success), (0, false)),
+            }
+            if state == start {
+                assert_eq!(planned.way_jobs, jobs.len());
+                assert_eq!(planned.way_minutes, minutes(seconds_of(&table, &jobs)));
+            }
+        }
+    }
+}
+
+/// Ways of up to 1,023 jobs, worked to the end, and one of 4,095, the longest that a list can hold.
+fn long_runs(random: &mut Random, index: u64) {
+    let bits = index as usize + 1;
+    let way = (1 << bits) - 1;
+    let (table, start) = make::counter_table(bits, random.next() as u16 | 0x8000);
+    let bytes = make::bytes_of(&table);
+    let (result, lent) = checks::plan(&bytes, start, 0, full(), random.next());
+    let planned = result.expect("a counter can be counted up");
+    assert_eq!((planned.entries, planned.way_jobs), (way + 1, way));
+    assert_eq!(planned.way_minutes, minutes(i64::from(table.jobs[0].seconds) * way as i64));
+    let tree = &lent.tree[..planned.tree_bytes];
+    if bits <= 10 {
+        let (jobs, success) = run(&bytes, &table, tree, start);
+        assert_eq!((jobs.len(), success), (way, true));
+    } else {
+        let last = usize::from(lent.jobs[way]) as u8;
+        let ticked = checks::tick(&bytes, tree, start, 0).expect("a sound tree");
+        assert_eq!(ticked.status, Status::Running(last));
+    }
+}
+
+/// A plan is refused as no way exactly where brute force finds none.
+fn no_way(random: &mut Random, index: u64) {
+    let facts = random.between(3, 7) as u32;
+    let table = if index % 2 == 0 { make::busy_table(random, facts) } else { make::table(random, 7, 8) };
+    let bytes = make::bytes_of(&table);
+    let distance = distances(&table);
+    for start in 0..1u64 << table.facts {
+        let (result, _) = checks::plan(&bytes, start, 0, lists(140, 1_960), start);
+        let jobs = match result {
+            Ok(planned) => Some(planned.way_jobs),
+            Err(refusal) => {
+                assert_eq!(refusal.number, 11);
+                None
+            }
+        };
+        assert_eq!(jobs, distance[start as usize], "from {start:x}");
+    }
+}

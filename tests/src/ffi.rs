@@ -1,0 +1,219 @@
+//! The C interface `include/bay.h`, with safe wrappers.
+//!
+//! Every wrapper lends an answer that is filled with a pattern and has spare words after it, and sees to it that the
+//! returned number is the answer's first word and that the spare words stay as they were.
+
+use std::sync::atomic::{AtomicU64, Ordering};
+
+use bay_tests::engine::{Card, Columns, Lent};
+
+extern "C" {
+    fn bay_read_table(table: *const u8, table_len: usize, answer: *mut u64) -> u64;
+    fn bay_read_job(table: *const u8, table_len: usize, job: usize, answer: *mut u64) -> u64;
+    fn bay_write_table(
+        facts: u8,
+        needs: *const u64,
+        needs_len: usize,
+        adds: *const u64,
+        adds_len: usize,
+        deletes: *const u64,
+        deletes_len: usize,
+        seconds: *const u16,
+        seconds_len: usize,
+        goal: u64,
+        out: *mut u8,
+        out_len: usize,
+        answer: *mut u64,
+    ) -> u64;
+    fn bay_plan(
+        table: *const u8,
+        table_len: usize,
+        held: u64,
+        unread: u64,
+        conditions: *mut u64,
+        conditions_len: usize,
+        jobs: *mut u8,
+        jobs_len: usize,
+        parents: *mut u16,
+        parents_len: usize,
+        depths: *mut u16,
+        depths_len: usize,
+        tree: *mut u8,
+        tree_len: usize,
+        answer: *mut u64,
+    ) -> u64;
+    fn bay_tick(
+        table: *const u8,
+        table_len: usize,
+        tree: *const u8,
+        tree_len: usize,
+        held: u64,
+        unread: u64,
+        answer: *mut u64,
+    ) -> u64;
+    fn bay_open(
+        table: *const u8,
+        table_len: usize,
+        held: u64,
+        unread: u64,
+        card_held: *mut u64,
+        card_unread: *mut u64,
+        card_reports: *mut u16,
+        card_taken: *mut u32,
+        card_planned: *mut u32,
+        answer: *mut u64,
+    ) -> u64;
+    fn bay_read_outside(
+        table: *const u8,
+        table_len: usize,
+        held: u64,
+        unread: u64,
+        card_held: *mut u64,
+        card_unread: *mut u64,
+        answer: *mut u64,
+    ) -> u64;
+    fn bay_report(
+        table: *const u8,
+        table_len: usize,
+        job: u8,
+        seconds: u16,
+        card_held: *mut u64,
+        card_unread: *mut u64,
+        card_reports: *mut u16,
+        card_taken: *mut u32,
+        card_planned: *mut u32,
+        answer: *mut u64,
+    ) -> u64;
+    fn bay_lateness(card_taken: u32, card_planned: u32) -> i64;
+}
+
+pub const TOO_SHORT: u64 = 100;
+pub const UNEVEN: u64 = 101;
+pub const SUCCESS: u64 = 0;
+pub const FAILURE: u64 = 1;
+pub const RUNNING: u64 = 2;
+pub const UNSETTLED: u64 = 3;
+
+static CALLS: AtomicU64 = AtomicU64::new(0);
+
+/// How often the library was called.
+pub fn calls() -> u64 {
+    CALLS.load(Ordering::Relaxed)
+}
+
+const PATTERN: u64 = 0xa5c3_96f0_5a3c_690f;
+const SPARE: usize = 2;
+const LONGEST: usize = 5;
+
+/// Calls with an answer of `N` words.
+fn answer_of<const N: usize>(call: impl FnOnce(*mut u64) -> u64) -> [u64; N] {
+    let mut words = [PATTERN; LONGEST + SPARE];
+    CALLS.fetch_add(1, Ordering::Relaxed);
+    let returned = call(words.as_mut_ptr());
+    let mut answer = [0; N];
+    answer.copy_from_slice(&words[..N]);
+    assert_eq!(returned, answer[0], "the returned number is not the answer's first word");
+    assert!(words[N..].iter().all(|word| *word == PATTERN), "words past the answer were written");
+    answer
+}
+
+pub fn read_table(table: &[u8]) -> [u64; 4] {
+    answer_of(|answer| unsafe { bay_read_table(table.as_ptr(), table.len(), answer) })
+}
+
+pub fn read_job(table: &[u8], job: usize) -> [u64; 5] {
+    answer_of(|answer| unsafe { bay_read_job(table.as_ptr(), table.len(), job, answer) })
+}
+
+pub fn write_table(facts: u8, columns: &Columns, goal: u64, out: &mut [u8]) -> [u64; 2] {
+    answer_of(|answer| unsafe {
+        bay_write_table(
+            facts,
+            columns.needs.as_ptr(),
+            columns.needs.len(),
+            columns.adds.as_ptr(),
+            columns.adds.len(),
+            columns.deletes.as_ptr(),
+            columns.deletes.len(),
+            columns.seconds.as_ptr(),
+            columns.seconds.len(),
+            goal,
+            out.as_mut_ptr(),
+            out.len(),
+            answer,
+        )
+    })
+}
+
+pub fn plan(table: &[u8], held: u64, unread: u64, lent: &mut Lent) -> [u64; 5] {
+    answer_of(|answer| unsafe {
+        bay_plan(
+            table.as_ptr(),
+            table.len(),
+            held,
+            unread,
+            lent.conditions.as_mut_ptr(),
+            lent.conditions.len(),
+            lent.jobs.as_mut_ptr(),
+            lent.jobs.len(),
+            lent.parents.as_mut_ptr(),
+            lent.parents.len(),
+            lent.depths.as_mut_ptr(),
+            lent.depths.len(),
+            lent.tree.as_mut_ptr(),
+            lent.tree.len(),
+            answer,
+        )
+    })
+}
+
+pub fn tick(table: &[u8], tree: &[u8], held: u64, unread: u64) -> [u64; 3] {
+    answer_of(|answer| unsafe {
+        bay_tick(table.as_ptr(), table.len(), tree.as_ptr(), tree.len(), held, unread, answer)
+    })
+}
+
+pub fn open(table: &[u8], held: u64, unread: u64, card: &mut Card) -> [u64; 2] {
+    answer_of(|answer| unsafe {
+        bay_open(
+            table.as_ptr(),
+            table.len(),
+            held,
+            unread,
+            &mut card.held,
+            &mut card.unread,
+            &mut card.reports,
+            &mut card.taken,
+            &mut card.planned,
+            answer,
+        )
+    })
+}
+
+pub fn read_outside(table: &[u8], held: u64, unread: u64, card: &mut Card) -> [u64; 2] {
+    answer_of(|answer| unsafe {
+        bay_read_outside(table.as_ptr(), table.len(), held, unread, &mut card.held, &mut card.unread, answer)
+    })
+}
+
+pub fn report(table: &[u8], job: u8, seconds: u16, card: &mut Card) -> [u64; 2] {
+    answer_of(|answer| unsafe {
+        bay_report(
+            table.as_ptr(),
+            table.len(),
+            job,
+            seconds,
+            &mut card.held,
+            &mut card.unread,
+            &mut card.reports,
+            &mut card.taken,
+            &mut card.planned,
+            answer,
+        )
+    })
+}
+
+pub fn lateness(taken: u32, planned: u32) -> i64 {
+    CALLS.fetch_add(1, Ordering::Relaxed);
+    unsafe { bay_lateness(taken, planned) }
+}

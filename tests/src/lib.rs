@@ -1,0 +1,8 @@
+//! Document 01 in plain Rust, and what the tests share.
+
+pub mod engine;
+pub mod random;
+pub mod trailer;
+
+#[cfg(test)]
+mod engine_tests;
