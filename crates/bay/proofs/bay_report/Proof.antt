@@ -1,0 +1,18 @@
+-- `bay::bay_report` meets its contract.
+-- Assumes nothing.
+use borrow.Author.Needs.{needs}
+use Rattle.bay.specs.WordLaws.{step-stored}
+use Rattle.bay.proofs.bay_report.Statement.{statement}
+use Rattle.bay.proofs.bay_report.Tie as tie
+
+reported-requires : tie.Need-reported-requires
+reported-requires c κs = search needs
+
+store-requires : tie.Need-store-requires
+store-requires c κs = search needs
+
+returns : tie.Need-returns
+returns c = step-stored (c .before .before .before .before .before .before .before .reported .ensures) (c .store .ensures)
+
+pub bay-report-spec : {M : Type 1} → statement M
+bay-report-spec = tie.close (tie.spec reported-requires store-requires returns)

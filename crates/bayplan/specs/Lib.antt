@@ -1,0 +1,5 @@
+pub mod Program
+pub mod Cases
+pub mod Shows
+pub mod ProgramLaws
+pub mod FrontLaws

@@ -1,0 +1,88 @@
+-- `plan_text::put_entries` meets its contract. The loop's invariant: the lines of the entries passed are put. The measure is the number of
+-- entries left.
+-- Assumes nothing.
+use borrow.Author.Needs.{needs}
+use native.Mathlib.Omega.{arith}
+use mathlib.Core.Path.{_≡_}
+use Prim.Native.Nat.{_-_, _≤_}
+use Rattle.planning.specs.Columns.{entryAt, entriesOf}
+use Rattle.plan_text.specs.Text.{entriesText}
+use Rattle.plan_text.specs.Writes.{Put}
+use Rattle.plan_text.specs.WriteLaws.{put-none, put-within, put-length, put-entry}
+use Rattle.plan_text.proofs.put_entries.Statement.{statement}
+use Rattle.plan_text.proofs.put_entries.Tie as tie
+
+abbrev Inv-loop : tie.InvT-loop
+Inv-loop conditions actions parents depths n out₀ at next₀ i₀ out next i =
+    (i ≤ n) × Put out₀ out at next (entriesText 0 (entriesOf conditions actions parents depths i))
+
+abbrev μ-loop : tie.MeasureT-loop
+μ-loop conditions actions parents depths n out₀ at next₀ i₀ out next i = n - i
+
+loop-holds : tie.Need-loop-holds Inv-loop μ-loop
+unfolding entriesText
+loop-holds c = (omega arith, put-none _ _ (c .before .before .before .before .before .pre .4))
+
+mul-put-entry : tie.Need-mul-put-entry Inv-loop μ-loop
+mul-put-entry c = search needs
+
+shared-slice-read-put-entry : tie.Need-shared-slice-read-put-entry Inv-loop μ-loop
+shared-slice-read-put-entry c = search needs
+
+shared-slice-read-put-entry-2 : tie.Need-shared-slice-read-put-entry-2 Inv-loop μ-loop
+shared-slice-read-put-entry-2 c = search needs
+
+mul-put-entry-2 : tie.Need-mul-put-entry-2 Inv-loop μ-loop
+mul-put-entry-2 c = search needs
+
+shared-slice-read-put-entry-3 : tie.Need-shared-slice-read-put-entry-3 Inv-loop μ-loop
+shared-slice-read-put-entry-3 c = search needs
+
+mul-put-entry-3 : tie.Need-mul-put-entry-3 Inv-loop μ-loop
+mul-put-entry-3 c = search needs
+
+shared-slice-read-put-entry-4 : tie.Need-shared-slice-read-put-entry-4 Inv-loop μ-loop
+shared-slice-read-put-entry-4 c = search needs
+
+put-entry-requires : tie.Need-put-entry-requires Inv-loop μ-loop
+put-entry-requires c κs = put-within (c .before .before .before .before .before .before .loop .inv .1)
+
+add-i : tie.Need-add-i Inv-loop μ-loop
+add-i c = search needs
+
+loop-less : tie.Need-loop-less Inv-loop μ-loop
+loop-less c = search needs
+
+loop-again : tie.Need-loop-again Inv-loop μ-loop
+loop-again c =
+    let a = c .before .before .before .before .before .before .before .before .before .before .before .before .before .before .before .args in
+    (omega arith, put-entry (entryAt (a .conditions .now) (a .actions .now) (a .parents .now) (a .depths .now)) _ (c .before .before .before .before .before .before .before .before .before .loop .inv .1) (c .before .before .put-entry .ensures))
+
+same-length : tie.Need-same-length Inv-loop μ-loop
+same-length c = put-length (c .before .loop .inv .1)
+
+returns : tie.Need-returns Inv-loop μ-loop
+returns c =
+    let n : c .before .loop .i ≡ c .before .before .before .before .before .before .before .args .n = omega arith in
+    rw n at (c .before .loop .inv .1)
+
+pub put-entries-spec : {M : Type 1} → statement M
+put-entries-spec =
+    tie.close
+    (tie.spec
+    Inv-loop
+    μ-loop
+    loop-holds
+    mul-put-entry
+    shared-slice-read-put-entry
+    shared-slice-read-put-entry-2
+    mul-put-entry-2
+    shared-slice-read-put-entry-3
+    mul-put-entry-3
+    shared-slice-read-put-entry-4
+    put-entry-requires
+    add-i
+    loop-less
+    loop-again
+    same-length
+    returns)

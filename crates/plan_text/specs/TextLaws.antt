@@ -1,0 +1,120 @@
+-- How long the texts are, and that a slice with room for a text holds it whole.
+-- Assumes nothing.
+use borrow.Author.Tests.{lt-ltb, le-ltb}
+use native.Mathlib.Nat.{pow-suc}
+use native.Mathlib.Decide.{decLe}
+use native.Mathlib.Omega.{arith}
+use mathlib.Core.Path.{_≡_, refl, sym, ap, _∙_}
+use mathlib.Core.List.{List, [], _∷_, _++_}
+use Prim.Native.Nat.{ℕ, zero, suc, _+_, _*_, _/_, _^_, _≤_, _<_}
+use lib.ListN.{length, take, drop, length-append}
+use lib.Seq.{take-all, take-at}
+use Rattle.base.specs.Lists.{prefix, length-prefix}
+use Rattle.planning.specs.Expansion.{Entry}
+use Rattle.plan_text.specs.Text.{ascii, digits, placesIn, places, decimal, maskText, line, jobText, entryText, entriesText, planText, refusedText}
+use Rattle.plan_text.specs.Writes.{Wrote}
+use Rattle.plan_text.specs.WriteLaws.{entries-snoc}
+
+-- ---- a text that fits
+
+pub wrote-whole : {text a b : List ℕ} {r : ℕ} → Wrote text a b r → length text ≤ length a → (r ≡ length text) × (take r b ≡ text)
+wrote-whole {text} {a} {b} {r} w h =
+    let e : r ≡ length text = omega (arith, w .counted) in
+    (e, rw (w .lent, take-all (length a) text h) (take-at text (drop (length text) a) r (sym e)))
+
+-- ---- fields
+
+digits-length : (base count n : ℕ) → length (digits base count n) ≡ count
+unfolding digits
+digits-length base zero n = refl
+digits-length base (suc k) n = ap suc (digits-length base k n)
+
+places-in-most : (k most n : ℕ) → n < 10 ^ suc k → placesIn most n ≤ suc k
+unfolding placesIn
+places-in-most k zero n h = omega arith
+places-in-most zero (suc most) n h = rw (lt-ltb n 10 h) (omega arith)
+places-in-most (suc k) (suc most) n h =
+    elim (decLe 10 n) [
+      | no l ↦ rw (lt-ltb n 10 (omega arith)) (omega arith)
+      | yes l ↦ rw (le-ltb n 10 l) (omega (arith, places-in-most k most (n / 10) (omega (arith, pow-suc 10 (suc k)))))
+    ]
+
+decimal-length : (k n : ℕ) → n < 10 ^ suc k → length (decimal n) ≤ suc k
+unfolding places
+decimal-length k n h = omega (arith, digits-length 10 (places n) n, places-in-most k n n h)
+
+-- the fields' bytes, each with the separator or line feed after it
+total : List (List ℕ) → ℕ
+total [] = 0
+total (f ∷ fs) = suc (length f) + total fs
+
+line-length : (f : List ℕ) (fs : List (List ℕ)) → length (line f fs) ≡ suc (length f) + total fs
+unfolding total
+line-length f [] = length-append f (ascii "\n") ∙ omega arith
+line-length f (g ∷ gs) = length-append f (ascii " " ++ line g gs) ∙ omega (arith, line-length g gs)
+
+-- ---- numbers of the widths that the program prints
+
+word-length : (n : ℕ) → n < 2 ^ 64 → length (decimal n) ≤ 20
+word-length n h = decimal-length 19 n (omega arith)
+
+-- an entry whose number has 4 digits at most, and whose action, parent and depth have 8, 16 and 16 bits
+pub record Small (e : Entry ℕ) : Type 0 where
+  pub action-small : e .action < 2 ^ 8
+  pub parent-small : e .parent < 2 ^ 16
+  pub depth-small : e .depth < 2 ^ 16
+
+job-length : (i a : ℕ) → a < 2 ^ 8 → length (jobText i a) ≤ 3
+job-length zero a h = omega arith
+job-length (suc i) a h = decimal-length 2 a (omega arith)
+
+entry-length : (i : ℕ) (e : Entry ℕ) → i < 10000 → Small e → length (entryText i e) ≤ 38
+unfolding total
+entry-length i e h s =
+    let fields = maskText (e .condition) ∷ jobText i (e .action) ∷ decimal (e .parent) ∷ decimal (e .depth) ∷ [] in
+    omega (
+      arith,
+      line-length (decimal i) fields,
+      decimal-length 3 i h,
+      digits-length 16 16 (e .condition),
+      job-length i (e .action) (s .action-small),
+      decimal-length 4 (e .parent) (omega (arith, s .parent-small)),
+      decimal-length 4 (e .depth) (omega (arith, s .depth-small)),
+    )
+
+entries-length : (f : ℕ → Entry ℕ) (n : ℕ) → n ≤ 10000 → ((i : ℕ) → i < n → Small (f i)) → length (entriesText 0 (prefix f n)) ≤ 38 * n
+unfolding entriesText
+entries-length f zero h s = omega arith
+entries-length f (suc n) h s =
+    let e : 0 + length (prefix f n) ≡ n = omega (arith, length-prefix f n) in
+    rw (entries-snoc 0 (prefix f n) (f n), e)
+    (omega (
+      arith,
+      length-append (entriesText 0 (prefix f n)) (entryText n (f n)),
+      entries-length f n (omega arith) (λ i l. s i (omega arith)),
+      entry-length n (f n) (omega arith) (s n (omega arith)),
+    ))
+
+pub refused-length : (number place : ℕ) → number < 2 ^ 8 → place < 2 ^ 64 → length (refusedText number place) ≤ 33
+unfolding refusedText total
+refused-length number place h k =
+    omega (arith, line-length (ascii "refused") (decimal number ∷ decimal place ∷ []), decimal-length 2 number (omega arith), word-length place k)
+
+pub plan-length : (entries bytes : ℕ) (f : ℕ → Entry ℕ) (n jobs minutes : ℕ) → entries < 2 ^ 64 → bytes < 2 ^ 64 → jobs < 2 ^ 64 → minutes < 2 ^ 32
+    → n ≤ 10000 → ((i : ℕ) → i < n → Small (f i)) → length (planText entries bytes (prefix f n) jobs minutes) ≤ 83 + 38 * n
+unfolding planText total
+plan-length entries bytes f n jobs minutes e b j m h s =
+    let first = line (ascii "plan") (decimal entries ∷ decimal bytes ∷ []) in
+    let last = line (ascii "way") (decimal jobs ∷ decimal minutes ∷ []) in
+    omega (
+      arith,
+      length-append first (entriesText 0 (prefix f n) ++ last),
+      length-append (entriesText 0 (prefix f n)) last,
+      line-length (ascii "plan") (decimal entries ∷ decimal bytes ∷ []),
+      line-length (ascii "way") (decimal jobs ∷ decimal minutes ∷ []),
+      entries-length f n h s,
+      word-length entries e,
+      word-length bytes b,
+      word-length jobs j,
+      decimal-length 9 minutes (omega arith),
+    )
