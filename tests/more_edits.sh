@@ -1,6 +1,6 @@
 #!/bin/sh
-# More wrong programs that the prover must refuse, beside those of the gate: tests/edits/CRATE/*.edit. They take as long again as the gate's,
-# so they are run by hand, after a change of a contract or of code. The last line is rt's.
+# More wrong programs that the prover must refuse, beside those of the gate: tests/edits/CRATE/*.edit. Each costs a proof
+# of its whole crate, so they are run by hand, after a change of a contract or of code. The last line is rt's.
 set -eu
 cd "$(dirname "$0")/.."
 work=$(mktemp -d)
