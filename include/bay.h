@@ -105,7 +105,7 @@ uint64_t bay_read_outside(const uint8_t *table, size_t table_len, uint64_t held,
 uint64_t bay_report(const uint8_t *table, size_t table_len, uint8_t job, uint16_t seconds, uint64_t *card_held,
                     uint64_t *card_unread, uint16_t *card_reports, uint32_t *card_taken, uint32_t *card_planned, uint64_t answer[2]);
 
-/* Taken minus planned, in whole minutes, nearest, a half away from zero; of every card, sound or not. */
+/* Taken minus planned, in whole minutes, nearest, an exact half to the even one; of every card, sound or not. */
 int64_t bay_lateness(uint32_t card_taken, uint32_t card_planned);
 
 /* A tick by card is bay_tick with the card's masks. */

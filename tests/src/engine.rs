@@ -1,8 +1,9 @@
 //! Document 01 in plain Rust: table reader and writer, plan, tree reader and tick, job card, and the text of `bayplan`.
 //!
 //! It is written from the paper alone, to be compared with the proved library, and favours plainness over speed. Quotations in
-//! the comments are from document 01.
+//! the comments are from document 01, or from document 02 where they name it.
 
+use std::cmp::Ordering;
 use std::fmt::Write;
 
 // ---- commands
@@ -362,13 +363,17 @@ pub fn seconds_of(table: &Table, jobs: &[u8]) -> i64 {
     jobs.iter().map(|job| i64::from(table.jobs[usize::from(*job)].seconds)).sum()
 }
 
-/// "in whole minutes: nearest, half away from zero"
+/// "to the nearest minute with an exact half going to the even one" (document 02, W1): of the two minutes around the seconds the nearer one,
+/// and of two that are as near the even one.
 pub fn minutes(seconds: i64) -> i64 {
-    let nearest = (seconds.abs() + 30) / 60;
-    if seconds < 0 {
-        -nearest
-    } else {
-        nearest
+    let before = seconds.div_euclid(60);
+    let after = before + 1;
+    let (since, until) = (seconds - before * 60, after * 60 - seconds);
+    match since.cmp(&until) {
+        Ordering::Less => before,
+        Ordering::Greater => after,
+        Ordering::Equal if before % 2 == 0 => before,
+        Ordering::Equal => after,
     }
 }
 

@@ -103,8 +103,9 @@ fn run_from_p1_is_3_1_2_4() {
 }
 
 #[test]
-fn minutes_are_nearest_with_the_half_away_from_zero() {
-    for (seconds, whole) in [(0, 0), (29, 0), (30, 1), (89, 1), (90, 2), (150, 3), (1590, 27)] {
+fn minutes_are_nearest_with_the_half_to_the_even_one() {
+    let around_zero = [(0, 0), (29, 0), (30, 0), (31, 1), (89, 1), (90, 2), (91, 2), (149, 2), (150, 2), (151, 3)];
+    for (seconds, whole) in around_zero.into_iter().chain([(1590, 26), (1650, 28)]) {
         assert_eq!(minutes(seconds), whole);
         assert_eq!(minutes(-seconds), -whole);
     }

@@ -25,7 +25,7 @@ pub fn start(held: u64, unread: u64) -> Vec<u8> {
     [held.to_le_bytes(), unread.to_le_bytes()].concat()
 }
 
-/// What `bayplan` prints for held 02, from the paper.
+/// What `bayplan` prints for held 02: the lines of document 01, the time of the way as document 02 rounds it.
 pub const PRINTED: &str = "plan 8 111
 0 0000000000000010 - 0 0
 1 000000000000000c 4 0 1
@@ -35,5 +35,5 @@ pub const PRINTED: &str = "plan 8 111
 5 0000000000000003 3 2 3
 6 0000000000000005 0 3 3
 7 0000000000000002 3 4 4
-way 4 27
+way 4 26
 ";

@@ -40,7 +40,7 @@ pub printed : map (λ (f : List ℕ × List ℕ). programText (f .0) (f .1))
     ∷ "5 0000000000000003 3 2 3"
     ∷ "6 0000000000000005 0 3 3"
     ∷ "7 0000000000000002 3 4 4"
-    ∷ "way 4 27"
+    ∷ "way 4 26"
     ∷ [])
     ∷ lines ("refused 11 9" ∷ [])
     ∷ lines ("refused 9 0" ∷ [])

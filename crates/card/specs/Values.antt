@@ -25,7 +25,7 @@ measure = record { needs = 0x02; adds = 0x08; deletes = 0x00; seconds = 600 }
 abbrev seal : Job
 seal = record { needs = 0x0c; adds = 0x10; deletes = 0x00; seconds = 150 }
 
--- a new card with the trailer on and fact 3 unread; measured in 630 seconds: half a minute late is a minute; uncoupled in 200: on time
+-- a new card with the trailer on and fact 3 unread; measured in 630 seconds: half a minute late, which is no minute; uncoupled in 200: on time
 pub two-reports : judged measure 630 (newCard (record { held = 0x02; unread = 0x08 })) ≡ accepted (card 0x0a 0 1 630 600)
 unfolding judged applicable exhausted withReport finished applied subset union difference
 two-reports = refl
@@ -45,9 +45,10 @@ pub at-the-bounds : map (judged seal 65535) (card 0x0c 0 1 65535 65535 ∷ card 
 unfolding judged applicable exhausted withReport finished applied subset union difference
 at-the-bounds = refl
 
--- half a minute late and early, and the ends
+-- half a minute late and early, which is no minute, and a second more; a minute and a half and two and a half, which are two; the ends
 pub lates : map latenessOf
-    (card 0 0 1 630 600 ∷ card 0 0 2 830 840 ∷ card 0 0 1 570 600 ∷ card 0 0 1 571 600 ∷ card 0 0 0 0 4294967295 ∷ card 0 0 0 4294967295 0 ∷ [])
-    ≡ pos 1 ∷ pos 0 ∷ negsuc 0 ∷ pos 0 ∷ negsuc 71582787 ∷ pos 71582788 ∷ []
+    (card 0 0 1 630 600 ∷ card 0 0 2 830 840 ∷ card 0 0 1 570 600 ∷ card 0 0 1 631 600 ∷ card 0 0 1 569 600
+      ∷ card 0 0 1 690 600 ∷ card 0 0 1 510 600 ∷ card 0 0 1 750 600 ∷ card 0 0 1 450 600 ∷ card 0 0 0 0 4294967295 ∷ card 0 0 0 4294967295 0 ∷ [])
+    ≡ pos 0 ∷ pos 0 ∷ pos 0 ∷ pos 1 ∷ negsuc 0 ∷ pos 2 ∷ negsuc 1 ∷ pos 2 ∷ negsuc 1 ∷ negsuc 71582787 ∷ pos 71582788 ∷ []
 unfolding latenessOf minutesOf nearest
 lates = refl

@@ -79,8 +79,8 @@ whole =
 
 abbrev pub cases : List Case
 cases =
-    -- P1 the list that `bayplan` prints, with `plan 8 111` and `way 4 27`
-    (planFor 0x02 4096 is plan (planned 8 111 4 27))
+    -- P1 the list that `bayplan` prints, with `plan 8 111` and, since document 02's W1, `way 4 26`
+    (planFor 0x02 4096 is plan (planned 8 111 4 26))
     ∷ (listFor 0x02 4096 is list (take 8 whole))
     -- P2 start 01: 9 entries, 4 jobs
     ∷ (planFor 0x01 4096 is plan (planned 9 125 4 28))

@@ -1,19 +1,22 @@
-// Seconds in whole minutes: one rule for the time of a way and for the lateness on a job card (document 01, "Job card").
+// Seconds in whole minutes: one rule for the time of a way and for the lateness on a job card (document 01, "Job card"; document 02, W1).
 ghost use mathlib.Core.Path.{_≡_};
 ghost use Rattle.minutes.specs.Minutes.{nearest, minutesOf};
 
-// The nearest minute of a signed number of seconds; a half goes away from zero. Quotient and remainder are rounded
-// toward zero, so no sum is made that could wrap.
+// The nearest minute of a signed number of seconds; an exact half goes to the even one. Quotient and remainder are rounded
+// toward zero, so both signs are alike, and no sum is made that could wrap.
 pub fn signed_minutes(seconds: i64) -> i64
     ensures { λ r. ⌜ r ≡ minutesOf seconds ⌝ }
 {
     let minutes = seconds / 60;
     let rest = seconds % 60;
-    if rest >= 30 {
+    if rest > 30 {
         return minutes + 1;
     }
-    if rest <= -30 {
+    if rest < -30 {
         return minutes - 1;
+    }
+    if rest == 30 || rest == -30 {
+        return minutes + minutes % 2;
     }
     minutes
 }

@@ -13,7 +13,7 @@ lines [] = []
 lines (s ∷ rest) = ascii s ++ (ascii "\n" ++ lines rest)
 
 -- P1
-pub printed : planText 8 111 (take 8 whole) 4 27
+pub printed : planText 8 111 (take 8 whole) 4 26
     ≡ lines
     ("plan 8 111"
     ∷ "0 0000000000000010 - 0 0"
@@ -24,7 +24,7 @@ pub printed : planText 8 111 (take 8 whole) 4 27
     ∷ "5 0000000000000003 3 2 3"
     ∷ "6 0000000000000005 0 3 3"
     ∷ "7 0000000000000002 3 4 4"
-    ∷ "way 4 27"
+    ∷ "way 4 26"
     ∷ [])
 unfolding planText entriesText digits placesIn places
 printed = refl

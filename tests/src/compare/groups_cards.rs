@@ -140,8 +140,13 @@ fn lateness(random: &mut Random, index: u64) {
         }
         assert_eq!(checks::lateness(u32::MAX, 0), 71_582_788);
         assert_eq!(checks::lateness(0, u32::MAX), -71_582_788);
-        assert_eq!((checks::lateness(30, 0), checks::lateness(0, 30)), (1, -1));
-        assert_eq!((checks::lateness(29, 0), checks::lateness(0, 29)), (0, 0));
+        for (seconds, whole) in [(29, 0), (30, 0), (31, 1), (90, 2), (150, 2), (210, 4)] {
+            assert_eq!((checks::lateness(seconds, 0), checks::lateness(0, seconds)), (whole, -whole));
+        }
+        for difference in 0..=3_600 {
+            checks::lateness(4_000 + difference, 4_000);
+            checks::lateness(4_000 - difference, 4_000);
+        }
     }
     for _ in 0..40 {
         let planned = random.next() as u32;

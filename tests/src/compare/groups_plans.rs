@@ -15,6 +15,7 @@ pub fn groups() -> Vec<Group> {
         Group { name: "plans_at_each_capacity", cases: 4_000, run: each_capacity },
         Group { name: "plans_of_many_jobs", cases: 600, run: many_jobs },
         Group { name: "plans_long", cases: 12, run: long },
+        Group { name: "plans_of_every_time", cases: 65_536, run: every_time },
         Group { name: "plans_refused", cases: 40_000, run: refused },
         Group { name: "runs_have_fewest_jobs", cases: 600, run: fewest_jobs },
         Group { name: "runs_long", cases: 12, run: long_runs },
@@ -242,6 +243,14 @@ fn run(bytes: &[u8], table: &Table, tree: &[u8], state: u64) -> (Vec<u8>, bool) 
         }
         assert!(jobs.len() <= MOST_ENTRIES, "the run does not end");
     }
+}
+
+/// A way of one job, once for each time that a table can list.
+fn every_time(random: &mut Random, index: u64) {
+    let (table, start) = make::counter_table(1, index as u16);
+    let (result, _) = checks::plan(&make::bytes_of(&table), start, 0, lists(2, 27), random.next());
+    let planned = result.expect("one job leads to the goal");
+    assert_eq!((planned.way_jobs, planned.way_minutes), (1, minutes(index as i64)));
 }
 
 /// Demand 3: from every state that a plan covers, the run ends with Success after the fewest jobs.
