@@ -48,7 +48,7 @@ at-the-bounds = refl
 -- half a minute late and early, which is no minute, and a second more; a minute and a half and two and a half, which are two; the ends
 pub lates : map latenessOf
     (card 0 0 1 630 600 ∷ card 0 0 2 830 840 ∷ card 0 0 1 570 600 ∷ card 0 0 1 631 600 ∷ card 0 0 1 569 600
-      ∷ card 0 0 1 690 600 ∷ card 0 0 1 510 600 ∷ card 0 0 1 750 600 ∷ card 0 0 1 450 600 ∷ card 0 0 0 0 4294967295 ∷ card 0 0 0 4294967295 0 ∷ [])
+    ∷ card 0 0 1 690 600 ∷ card 0 0 1 510 600 ∷ card 0 0 1 750 600 ∷ card 0 0 1 450 600 ∷ card 0 0 0 0 4294967295 ∷ card 0 0 0 4294967295 0 ∷ [])
     ≡ pos 0 ∷ pos 0 ∷ pos 0 ∷ pos 1 ∷ negsuc 0 ∷ pos 2 ∷ negsuc 1 ∷ pos 2 ∷ negsuc 1 ∷ negsuc 71582787 ∷ pos 71582788 ∷ []
 unfolding latenessOf minutesOf nearest
 lates = refl
