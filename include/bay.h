@@ -11,7 +11,7 @@
  *
  * Answers. Each function with an `answer` returns its first word: 0, or the number of a refusal (1 to 18, below). `answer` is
  * written whole in every case. Of a refusal answer[1] is the place, and the words after it are 0. A refused call writes to
- * nothing else that is lent, but for bay_plan's list tables after 10, 11 and 12.
+ * nothing else that is lent, but for the list tables of bay_plan and bay_plan_shift after 10, 11 and 12.
  *
  *    1 the table ends where a command or operand is due     2 a table command is unknown or not allowed there
  *    3 the number of facts is outside 1 to 64               4 a 129th job stands in the table
@@ -69,6 +69,13 @@ uint64_t bay_write_table(uint8_t facts, const uint64_t *needs, size_t needs_len,
 uint64_t bay_plan(const uint8_t *table, size_t table_len, uint64_t held, uint64_t unread, uint64_t *conditions,
                   size_t conditions_len, uint8_t *jobs, size_t jobs_len, uint16_t *parents, size_t parents_len, uint16_t *depths,
                   size_t depths_len, uint8_t *tree, size_t tree_len, uint64_t answer[5]);
+
+/* Plans for the whole shift: no start ends the list, every entry is expanded, and one tree serves every vehicle. A state meets some
+ * condition of it exactly when a sequence of jobs leads from the state to the goal. The list tables and the tree are lent and left
+ * as for bay_plan; 8, 9 and 11 do not arise. answer: 0, entries, bytes of the tree. */
+uint64_t bay_plan_shift(const uint8_t *table, size_t table_len, uint64_t *conditions, size_t conditions_len, uint8_t *jobs,
+                        size_t jobs_len, uint16_t *parents, size_t parents_len, uint16_t *depths, size_t depths_len, uint8_t *tree,
+                        size_t tree_len, uint64_t answer[3]);
 
 /* ---- the tick */
 

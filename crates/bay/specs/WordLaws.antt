@@ -13,14 +13,15 @@ use Rattle.tree.specs.TickBytes.{answerOf as tickAnswerOf}
 use Rattle.table.specs.Table.{Table}
 use Rattle.expander.specs.Expands.{Columns, room}
 use Rattle.planner.specs.declared.Planned.{Planned}
-use Rattle.planner.specs.Plan.{laid, answerOf}
-use Rattle.planner.specs.Promise.{Plans}
+use Rattle.planner.specs.declared.ShiftPlanned.{ShiftPlanned}
+use Rattle.planner.specs.Plan.{laid, shift, answerOf, shiftAnswerOf}
+use Rattle.planner.specs.Promise.{Plans, PlansShift}
 use Rattle.card.specs.declared.Card.{Card}
 use Rattle.card.specs.declared.Outcome.{Outcome}
 use Rattle.card.specs.declared.Outcome.the-variants.{Done, Refused}
 use Rattle.card.specs.declared.Step.{Step}
 use Rattle.card.specs.Card.{tableFor, withMasks, outsideRead, outcomeOf, answer, cardAfter, Updated}
-use Rattle.bay.specs.Words.{words, statusWords, summaryWords, PlanAnswered, TickAnswered, Answered, cardOf, CardAnswered, keptOr, Stored}
+use Rattle.bay.specs.Words.{words, statusWords, summaryWords, sizeWords, PlanAnswered, ShiftAnswered, TickAnswered, Answered, cardOf, CardAnswered, keptOr, Stored}
 
 -- a function that stores the words that are due and returns the first of them
 pub answered-by : {due lent : List ℕ} → lent ≡ due → Answered due lent (getD lent 0 0)
@@ -31,16 +32,16 @@ pub plan-answered : {table : List ℕ} {start : Reading} {before after : Columns
     → Plans table start before after treeBefore treeAfter r → lent ≡ words 5 summaryWords (answerOf r)
     → PlanAnswered table start (laid table start (room before) (length treeBefore)) before after treeBefore treeAfter lent (getD lent 0 0)
 plan-answered plans e =
-    let p = plans .lays in
-    record {
-      conditions = p .conditions;
-      actions = p .actions;
-      parents = p .parents;
-      depths = p .depths;
-      tree = p .answer-and-tree .tree-written;
-      answers = answered-by (e ∙ ap (words 5 summaryWords) (p .answer-and-tree .answer));
-      keeps = plans .keeps;
-    }
+    let told = plans .lays .answer-and-tree .answer in
+    record { lays = rw told at (plans .lays); answers = answered-by (e ∙ ap (words 5 summaryWords) told); keeps = plans .keeps }
+
+-- a plan for the whole shift
+pub shift-answered : {table : List ℕ} {before after : Columns} {treeBefore treeAfter lent : List ℕ} {r : ShiftPlanned}
+    → PlansShift table before after treeBefore treeAfter r → lent ≡ words 3 sizeWords (shiftAnswerOf r)
+    → ShiftAnswered table (shift table (room before) (length treeBefore)) before after treeBefore treeAfter lent (getD lent 0 0)
+shift-answered plans e =
+    let told = plans .lays .answer-and-tree .answer in
+    record { lays = rw told at (plans .lays); answers = answered-by (e ∙ ap (words 3 sizeWords) told); serves = plans .serves }
 
 -- a tick, with its answer in words
 pub tick-answered : {table tree : List ℕ} {r : Reading} {ticked : Ticked} {lent : List ℕ} → Answers table tree r ticked

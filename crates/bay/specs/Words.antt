@@ -2,9 +2,9 @@
 -- Definitions only.
 use mathlib.Core.Bool.{true}
 use mathlib.Core.Path.{_≡_}
-use mathlib.Core.List.{List, [], _∷_, _++_}
+use mathlib.Core.List.{List, [], _∷_}
 use Prim.Native.Nat.{ℕ, _-_}
-use lib.ListN.{length, getD, drop, replicate}
+use lib.ListN.{getD, replicate}
 use Rattle.refusal.specs.Checked.{Checked, accepted, refused}
 use Rattle.table.specs.declared.Job.{Job}
 use Rattle.table.specs.declared.Header.{Header}
@@ -13,10 +13,11 @@ use Rattle.reading.specs.declared.Reading.{Reading}
 use Rattle.tree.specs.TickBytes.{tickBytes, answered, isSettled, Settled}
 use Rattle.tree.specs.declared.Status.{Status}
 use Rattle.tree.specs.declared.Status.the-variants.{Success, Failure, Running, Unsettled}
-use Rattle.expander.specs.Expands.{Columns, over}
+use Rattle.expander.specs.Expands.{Columns}
 use Rattle.planner.specs.declared.Summary.{Summary}
-use Rattle.planner.specs.Plan.{Laid}
-use Rattle.planner.specs.Promise.{Keeps}
+use Rattle.planner.specs.declared.Size.{Size}
+use Rattle.planner.specs.Plan.{Laid, Lays}
+use Rattle.planner.specs.Promise.{Keeps, Serves}
 use Rattle.card.specs.declared.Card.{Card}
 use Rattle.card.specs.declared.Outcome.{Outcome}
 use Rattle.card.specs.declared.Outcome.the-variants.{Done, Refused}
@@ -37,6 +38,10 @@ jobWords j = j .needs ∷ j .adds ∷ j .deletes ∷ j .seconds ∷ []
 -- entries, bytes of the tree, and of the way its jobs and its minutes
 abbrev pub summaryWords : Summary → List ℕ
 summaryWords s = s .entries ∷ s .bytes ∷ s .jobs ∷ s .minutes ∷ []
+
+-- entries, bytes of the tree
+abbrev pub sizeWords : Size → List ℕ
+sizeWords s = s .entries ∷ s .bytes ∷ []
 
 -- BAY_SUCCESS, BAY_FAILURE, BAY_RUNNING and BAY_UNSETTLED
 abbrev pub statusWords : Status → List ℕ
@@ -61,14 +66,17 @@ pub record Answered (due lent : List ℕ) (result : ℕ) : Type 0 where
   pub gives : result ≡ getD due 0 0
 
 -- what a plan promises of the lent list tables and tree and of its answer, `due` being the definition's; and what holds of every plan
-pub record PlanAnswered (table : List ℕ) (start : Reading) (due : Laid) (before after : Columns) (treeBefore treeAfter lent : List ℕ) (result : ℕ) : Type 0 where
-  pub conditions : after .conditions ≡ over (λ x. x .condition) (due .list) (before .conditions)
-  pub actions : after .actions ≡ over (λ x. x .action) (due .list) (before .actions)
-  pub parents : after .parents ≡ over (λ x. x .parent) (due .list) (before .parents)
-  pub depths : after .depths ≡ over (λ x. x .depth) (due .list) (before .depths)
-  pub tree : treeAfter ≡ due .tree ++ drop (length (due .tree)) treeBefore
+pub record PlanAnswered (table : List ℕ) (start : Reading) (due : Laid Summary) (before after : Columns) (treeBefore treeAfter lent : List ℕ) (result : ℕ)
+    : Type 0 where
+  pub lays : Lays due before after treeBefore treeAfter (due .answer)
   pub answers : Answered (words 5 summaryWords (due .answer)) lent result
   pub keeps : Keeps table start due
+
+-- the same of a plan for the whole shift
+pub record ShiftAnswered (table : List ℕ) (due : Laid Size) (before after : Columns) (treeBefore treeAfter lent : List ℕ) (result : ℕ) : Type 0 where
+  pub lays : Lays due before after treeBefore treeAfter (due .answer)
+  pub answers : Answered (words 3 sizeWords (due .answer)) lent result
+  pub serves : Serves table due
 
 -- what a tick promises: the definition's answer, and Success, Failure or Running only where it is settled
 pub record TickAnswered (table tree : List ℕ) (r : Reading) (lent : List ℕ) (result : ℕ) : Type 0 where

@@ -5,6 +5,7 @@ use card::JobReport;
 use card::Outcome;
 use card::Step;
 use planner::Planned;
+use planner::ShiftPlanned;
 use reading::Reading;
 use refusal::Refusal;
 use table::JobRead;
@@ -22,11 +23,11 @@ ghost use Rattle.table.specs.Read.{readTable, headed, namedJob, jobReadOf};
 ghost use Rattle.table.specs.Read.{answerOf as tableAnswerOf};
 ghost use Rattle.table_writer.specs.Write.{even, tableOf, writing, writingOf, lentAfter};
 ghost use Rattle.expander.specs.Expands.{columns, room};
-ghost use Rattle.planner.specs.Plan.{laid};
+ghost use Rattle.planner.specs.Plan.{laid, shift, shiftAnswerOf};
 ghost use Rattle.planner.specs.Plan.{answerOf as planAnswerOf};
 ghost use Rattle.tree.specs.TickBytes.{answerOf as tickAnswerOf};
 ghost use Rattle.card.specs.Card.{opened, outsideRead, reported, latenessOf, outcomeOf};
-ghost use Rattle.bay.specs.Words.{words, headerWords, jobWords, statusWords, doneWords, writingWords, summaryWords, Answered, PlanAnswered, TickAnswered, cardOf, CardAnswered, Stored};
+ghost use Rattle.bay.specs.Words.{words, headerWords, jobWords, statusWords, doneWords, writingWords, summaryWords, sizeWords, Answered, PlanAnswered, ShiftAnswered, TickAnswered, cardOf, CardAnswered, Stored};
 
 // What the words of include/bay.h are called there.
 const BAY_TOO_SHORT: u64 = 100;
@@ -174,6 +175,37 @@ pub extern "C" fn bay_plan(
     let summary = planned_words(planned);
     *answer = summary;
     summary[0]
+}
+
+fn shift_words(planned: ShiftPlanned) -> [u64; 3]
+    ensures { λ r. ⌜ r ≡ words 3 sizeWords (shiftAnswerOf planned) ⌝ }
+{
+    match planned {
+        ShiftPlanned::Built(s) => [0, s.entries as u64, s.bytes as u64],
+        ShiftPlanned::Refused(why) => [number_of(why), why.place as u64, 0],
+    }
+}
+
+#[no_mangle]
+pub extern "C" fn bay_plan_shift(
+    table: &[u8],
+    conditions: &mut [u64],
+    jobs: &mut [u8],
+    parents: &mut [u16],
+    depths: &mut [u16],
+    tree: &mut [u8],
+    answer: &mut [u64; 3],
+) -> u64
+    ensures { λ r. ⌜ ShiftAnswered (now (table .entry))
+        (shift (now (table .entry)) (room (columns (now (conditions .entry)) (now (jobs .entry)) (now (parents .entry)) (now (depths .entry)))) (length (now (tree .entry))))
+        (columns (now (conditions .entry)) (now (jobs .entry)) (now (parents .entry)) (now (depths .entry)))
+        (columns (now (conditions .exit)) (now (jobs .exit)) (now (parents .exit)) (now (depths .exit)))
+        (now (tree .entry)) (now (tree .exit)) (now (answer .exit)) r ⌝ }
+{
+    let planned = planner::plan_shift(table, conditions, jobs, parents, depths, tree);
+    let size = shift_words(planned);
+    *answer = size;
+    size[0]
 }
 
 fn ticked_words(ticked: Ticked) -> [u64; 3]

@@ -27,11 +27,11 @@ abbrev pub startOf : List ℕ → Reading
 startOf start = record { held = numberAt 8 start 0; unread = numberAt 8 start 8 }
 
 -- ".. any length but 16 is number 8": after the table's own stops, which are checked before it
-abbrev pub noStart : Checked Table → Laid
+abbrev pub noStart : Checked Table → Laid Summary
 noStart (accepted t) = unlaid 8 0
 noStart (refused n p) = unlaid n p
 
-unfoldable pub laidFiles : List ℕ → List ℕ → Laid
+unfoldable pub laidFiles : List ℕ → List ℕ → Laid Summary
 laidFiles table start = if eqb (length start) 16 then laid table (startOf start) capacity treeRoom else noStart (readTable table)
 
 -- the plan's text, or "A stop prints one line only"
@@ -39,7 +39,7 @@ abbrev pub answerText : Checked Summary → List (Entry ℕ) → List ℕ
 answerText (accepted s) l = planText (s .entries) (s .bytes) l (s .jobs) (s .minutes)
 answerText (refused number place) l = refusedText number place
 
-abbrev pub laidText : Laid → List ℕ
+abbrev pub laidText : Laid Summary → List ℕ
 laidText L = answerText (L .answer) (L .list)
 
 unfoldable pub programText : List ℕ → List ℕ → List ℕ

@@ -32,7 +32,7 @@ use Rattle.planner.specs.declared.Summary.{Summary}
 use Rattle.refusal.specs.declared.Refusal.{Refusal}
 use Rattle.refusal.specs.Numbers.{numberOf}
 use Rattle.planner.specs.Promise.{Plans}
-use Rattle.planner.specs.Plan.{answerOf, Laid, unlaid, built, stopped, laidBy, laidFor, laidFrom, laidIn, laid, tableActions}
+use Rattle.planner.specs.Plan.{answerOf, Laid, unlaid, built, stopped, summaryOf, laidBy, laidFor, laidFrom, laidIn, laid, tableActions}
 use Rattle.bayplan.specs.Shows.{Shows, unsound, readingOf}
 use Rattle.bayplan.specs.Program.{answerText, laidText, programText, capacity, startOf, noStart, laidFiles}
 
@@ -56,13 +56,13 @@ laid-unsound table capacity room = by (readTable table)
 
 -- ---- a plan that is built: how many entries it lists
 
-pub record ListOf (L : Laid) (s : Summary) (capacity : ℕ) : Type 0 where
+pub record ListOf (L : Laid Summary) (s : Summary) (capacity : ℕ) : Type 0 where
   pub size : s .entries ≡ length (L .list)
   pub fits : length (L .list) ≤ capacity
 
 module _ (capacity room : ℕ) (s : Summary) where
   -- the promise for one plan
-  abbrev Listed : Laid → Type 0
+  abbrev Listed : Laid Summary → Type 0
   Listed L = L .answer ≡ accepted s → ListOf L s capacity
 
   listed-unless : (n p : ℕ) → Listed (unlaid n p)
@@ -73,11 +73,11 @@ module _ (capacity room : ℕ) (s : Summary) where
   by-outcome t (full l) h e = absurd (not-both e)
   by-outcome t (covered l) h e = by-room (leb _ room) e
     where
-      by-room : (b : Bool) → Listed (if b then built t l else stopped 12 l)
+      by-room : (b : Bool) → Listed (if b then built (summaryOf t l) l else stopped 12 l)
       by-room true e = record { size = ap (λ (x : Summary). x .entries) (sym (accepted-same e)); fits = h }
       by-room false e = absurd (not-both e)
 
-  listed-if : (a b : Bool) (L : Laid) → Listed L → Listed (if a then (if b then L else unlaid 9 0) else unlaid 8 0)
+  listed-if : (a b : Bool) (L : Laid Summary) → Listed L → Listed (if a then (if b then L else unlaid 9 0) else unlaid 8 0)
   listed-if true true L k = k
   listed-if true false L k = listed-unless 9 0
   listed-if false b L k = listed-unless 8 0
@@ -152,7 +152,7 @@ module _ (table start : List ℕ) (reading : Reading) (before after : Columns) (
   room-is = omega (arith, k .conditions-lent, k .actions-lent, k .parents-lent, k .depths-lent)
 
   -- the plan that is made is the one that the files ask for
-  abbrev made : Laid
+  abbrev made : Laid Summary
   made = laid table reading (room before) (length lent)
 
   made-is : made ≡ laidFiles table start

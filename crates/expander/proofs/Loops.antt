@@ -20,7 +20,7 @@ use Rattle.planning.specs.ExpansionSteps.{start-full, start-covered, start-goin
 use Rattle.planning.specs.ExpansionSteps.{list-grows}
 use Rattle.planning.specs.SearchLaws.{none-listed, wanted-intro, unwanted-irrelevant, unwanted-listed}
 use Rattle.planning.specs.ColumnLaws.{length-prefix, getD-prefix, entries-store}
-use Rattle.planning.specs.Facts.{Actions, unitDomain, startPlan}
+use Rattle.planning.specs.Facts.{Actions, unitDomain, factPlan}
 use Rattle.expander.specs.Expands.{actionsOf, Columns, room, held}
 use Rattle.expander.specs.ExpandsLaws.{count-needs, count-adds, count-deletes, count-most, entryOf}
 use Rattle.expander.proofs.Tables.{Holds, store, holds-none, holds-store, holds-self, holds-on}
@@ -35,15 +35,15 @@ pub record InRows (needs adds deletes : List ℕ) (count : ℕ) : Type 0 where
   pub few : count ≤ 128
 
 -- Where the loop began, the tables were t₀ and held n₀ entries; now they are t and hold n, and those below e are expanded.
-pub record AtEntry (A : Actions) (goal start capacity count : ℕ) (t₀ : Columns) (n₀ : ℕ) (t : Columns) (n e : ℕ) : Type 0 where
+pub record AtEntry (A : Actions) (goal : ℕ) (stop : ℕ → Bool) (capacity count : ℕ) (t₀ : Columns) (n₀ : ℕ) (t : Columns) (n e : ℕ) : Type 0 where
   pub counted : count ≡ A .count
   pub holds : Holds capacity n t₀ t
   pub grown : n₀ ≤ n
   pub inside : e ≤ n
-  pub same : remainingFrom (unitDomain A goal) (A .count) capacity (λ c. subset c start) e (held t n) ≡ startPlan A goal capacity start
+  pub same : remainingFrom (unitDomain A goal) (A .count) capacity stop e (held t n) ≡ factPlan A goal capacity stop
 
 -- Besides, the actions below a were tried at entry e, whose condition is c and whose depth is d.
-pub record AtAction (A : Actions) (goal start capacity count : ℕ) (t₀ : Columns) (n₀ e c d : ℕ) (t : Columns) (n a : ℕ) : Type 0 where
+pub record AtAction (A : Actions) (goal : ℕ) (stop : ℕ → Bool) (capacity count : ℕ) (t₀ : Columns) (n₀ e c d : ℕ) (t : Columns) (n a : ℕ) : Type 0 where
   pub counted : count ≡ A .count
   pub holds : Holds capacity n t₀ t
   pub grown : n₀ ≤ n
@@ -51,7 +51,7 @@ pub record AtAction (A : Actions) (goal start capacity count : ℕ) (t₀ : Colu
   pub its-condition : c ≡ getD (t .conditions) e 0
   pub its-depth : d ≡ getD (t .depths) e 0
   pub tried : a ≤ A .count
-  pub same : remainingAt (unitDomain A goal) (A .count) capacity (λ c. subset c start) e a (held t n) ≡ startPlan A goal capacity start
+  pub same : remainingAt (unitDomain A goal) (A .count) capacity stop e a (held t n) ≡ factPlan A goal capacity stop
 
 -- None of the first k listed conditions is a part of c.
 pub record AtListed (conditions : List ℕ) (n c k : ℕ) : Type 0 where
@@ -80,12 +80,12 @@ in-rows {needs} {adds} {deletes} e =
 pub root-held : {capacity : ℕ} (goal : ℕ) (t : Columns) → capacity ≡ room t → 0 < capacity → Holds capacity 1 t (store t 0 goal 255 0 0)
 root-held goal t e h = holds-store (holds-none t e) h goal 255 0 0 (omega arith)
 
-module _ (A : Actions) (goal start : ℕ) {capacity : ℕ} (t : Columns) (e : capacity ≡ room t) where
+module _ (A : Actions) (goal : ℕ) (stop : ℕ → Bool) {capacity : ℕ} (t : Columns) (e : capacity ≡ room t) where
   abbrev D₀ : Domain ℕ ℕ ℕ
   D₀ = unitDomain A goal
 
-  pub no-room : capacity ≡ 0 → full (held t 0) ≡ startPlan A goal capacity start
-  no-room z = sym (start-full D₀ (A .count) capacity (λ c. subset c start) z)
+  pub no-room : capacity ≡ 0 → full (held t 0) ≡ factPlan A goal capacity stop
+  no-room z = sym (start-full D₀ (A .count) capacity stop z)
 
   module _ (h : 0 < capacity) where
     root-list : held (store t 0 goal 255 0 0) 1 ≡ root D₀ ∷ []
@@ -94,23 +94,23 @@ module _ (A : Actions) (goal start : ℕ) {capacity : ℕ} (t : Columns) (e : ca
         entries-store (t .conditions) (t .actions) (t .parents) (t .depths) 0 goal 255 0 0 (omega (arith, H .conditions .roomy))
         (omega (arith, H .actions .roomy)) (omega (arith, H .parents .roomy)) (omega (arith, H .depths .roomy))
 
-    pub goal-met : T (subset goal start) → covered (held (store t 0 goal 255 0 0) 1) ≡ startPlan A goal capacity start
-    goal-met s = ap covered root-list ∙ sym (start-covered D₀ (A .count) capacity (λ c. subset c start) h s)
+    pub goal-met : T (stop goal) → covered (held (store t 0 goal 255 0 0) 1) ≡ factPlan A goal capacity stop
+    goal-met s = ap covered root-list ∙ sym (start-covered D₀ (A .count) capacity stop h s)
 
-    pub first-entry : {count : ℕ} → count ≡ A .count → T (not (subset goal start))
-        → AtEntry A goal start capacity count (store t 0 goal 255 0 0) 1 (store t 0 goal 255 0 0) 1 0
+    pub first-entry : {count : ℕ} → count ≡ A .count → T (not (stop goal))
+        → AtEntry A goal stop capacity count (store t 0 goal 255 0 0) 1 (store t 0 goal 255 0 0) 1 0
     first-entry q s =
         record {
           counted = q;
           holds = holds-self (root-held goal t e h);
           grown = omega arith;
           inside = omega arith;
-          same = rw root-list (sym (start-going D₀ (A .count) capacity (λ c. subset c start) h s));
+          same = rw root-list (sym (start-going D₀ (A .count) capacity stop h s));
         }
 
 -- ---- the entries
 
-module _ {A : Actions} {goal start capacity count : ℕ} {t₀ t : Columns} {n₀ n e : ℕ} (I : AtEntry A goal start capacity count t₀ n₀ t n e) where
+module _ {A : Actions} {goal : ℕ} {stop : ℕ → Bool} {capacity count : ℕ} {t₀ t : Columns} {n₀ n e : ℕ} (I : AtEntry A goal stop capacity count t₀ n₀ t n e) where
   abbrev D₁ : Domain ℕ ℕ ℕ
   D₁ = unitDomain A goal
 
@@ -118,15 +118,15 @@ module _ {A : Actions} {goal start capacity count : ℕ} {t₀ t : Columns} {n�
   held-length = length-prefix (entryOf t) n
 
   -- every entry is expanded
-  pub exhausts : e ≡ n → exhausted (held t n) ≡ startPlan A goal capacity start
-  exhausts h = sym (last-entry D₁ (A .count) capacity (λ c. subset c start) e (held t n) (omega (arith, held-length))) ∙ I .same
+  pub exhausts : e ≡ n → exhausted (held t n) ≡ factPlan A goal capacity stop
+  exhausts h = sym (last-entry D₁ (A .count) capacity stop e (held t n) (omega (arith, held-length))) ∙ I .same
 
   -- entry e is one of them
   module _ (other : e ≡ n → ⊥) where
     less : e < n
     less = omega (arith, I .inside)
 
-    pub enter : AtAction A goal start capacity count t n e (getD (t .conditions) e 0) (getD (t .depths) e 0) t n 0
+    pub enter : AtAction A goal stop capacity count t n e (getD (t .conditions) e 0) (getD (t .depths) e 0) t n 0
     enter =
         record {
           counted = I .counted;
@@ -137,14 +137,14 @@ module _ {A : Actions} {goal start capacity count : ℕ} {t₀ t : Columns} {n�
           its-depth = refl;
           tried = omega arith;
           same =
-              sym (enter-entry D₁ (A .count) capacity (λ c. subset c start) e (held t n) (omega (arith, less, held-length))
+              sym (enter-entry D₁ (A .count) capacity stop e (held t n) (omega (arith, less, held-length))
               (omega (arith, held-length, I .holds .fits)))
               ∙ I .same;
         }
 
     -- every action was tried at it
-    pub leave : {c d : ℕ} {u : Columns} {m a : ℕ} → AtAction A goal start capacity count t n e c d u m a → count ≤ a
-        → AtEntry A goal start capacity count t₀ n₀ u m (e + 1)
+    pub leave : {c d : ℕ} {u : Columns} {m a : ℕ} → AtAction A goal stop capacity count t n e c d u m a → count ≤ a
+        → AtEntry A goal stop capacity count t₀ n₀ u m (e + 1)
     leave {c} {d} {u} {m} {a} J h =
         let all : a ≡ A .count = omega (arith, J .counted, J .tried) in
         record {
@@ -152,13 +152,13 @@ module _ {A : Actions} {goal start capacity count : ℕ} {t₀ t : Columns} {n�
           holds = holds-on (I .holds) (J .holds) (J .grown);
           grown = omega (arith, I .grown, J .grown);
           inside = omega (arith, J .inside);
-          same = rw (add-one e) (sym (leave-entry D₁ (A .count) capacity (λ c. subset c start) e (held u m)) ∙ rw all at (J .same));
+          same = rw (add-one e) (sym (leave-entry D₁ (A .count) capacity stop e (held u m)) ∙ rw all at (J .same));
         }
 
 -- ---- the actions at an entry
 
-module _ {A : Actions} {goal start capacity count : ℕ} {t₀ t : Columns} {n₀ n e c d a : ℕ}
-    (I : AtAction A goal start capacity count t₀ n₀ e c d t n a) where
+module _ {A : Actions} {goal : ℕ} {stop : ℕ → Bool} {capacity count : ℕ} {t₀ t : Columns} {n₀ n e c d a : ℕ}
+    (I : AtAction A goal stop capacity count t₀ n₀ e c d t n a) where
   abbrev D : Domain ℕ ℕ ℕ
   D = unitDomain A goal
 
@@ -183,7 +183,7 @@ module _ {A : Actions} {goal start capacity count : ℕ} {t₀ t : Columns} {n�
     below : a < A .count
     below = omega (arith, I .counted)
 
-    skip : T (not (wanted D a it (held t n))) → AtAction A goal start capacity count t₀ n₀ e c d t n (a + 1)
+    skip : T (not (wanted D a it (held t n))) → AtAction A goal stop capacity count t₀ n₀ e c d t n (a + 1)
     skip w =
         record {
           counted = I .counted;
@@ -193,11 +193,11 @@ module _ {A : Actions} {goal start capacity count : ℕ} {t₀ t : Columns} {n�
           its-condition = I .its-condition;
           its-depth = I .its-depth;
           tried = omega (arith, below);
-          same = rw (add-one a) (sym (skip-action D (A .count) capacity (λ c. subset c start) e a (held t n) below w) ∙ I .same);
+          same = rw (add-one a) (sym (skip-action D (A .count) capacity stop e a (held t n) below w) ∙ I .same);
         }
 
     -- the action does not serve the condition
-    pub skip-irrelevant : T (not (relevant (A .adds a) (A .deletes a) c)) → AtAction A goal start capacity count t₀ n₀ e c d t n (a + 1)
+    pub skip-irrelevant : T (not (relevant (A .adds a) (A .deletes a) c)) → AtAction A goal stop capacity count t₀ n₀ e c d t n (a + 1)
     skip-irrelevant r =
         skip (unwanted-irrelevant D a it (held t n)
         (rw its-condition-is (not-T (ltb a (A .count) && relevant (A .adds a) (A .deletes a) c)
@@ -205,7 +205,7 @@ module _ {A : Actions} {goal start capacity count : ℕ} {t₀ t : Columns} {n�
 
     -- a listed condition is a part of what it makes of it
     pub skip-listed : (new : ℕ) → new ≡ regressed (A .needs a) (A .adds a) c → (k : ℕ) → k < n → T (subset (getD (t .conditions) k 0) new)
-        → AtAction A goal start capacity count t₀ n₀ e c d t n (a + 1)
+        → AtAction A goal stop capacity count t₀ n₀ e c d t n (a + 1)
     skip-listed new made k h s =
         skip (unwanted-listed D a it (held t n) k (omega (arith, its-length)) (rw (its-condition-is, ← made, listed-is k h) s))
 
@@ -220,9 +220,9 @@ module _ {A : Actions} {goal start capacity count : ℕ} {t₀ t : Columns} {n�
         (λ k h s. let l : k < n = omega (arith, its-length) in W .unlisted k l (rw (new-is, listed-is k l) at s)))
 
     -- there is no room for it
-    pub fills : n ≡ capacity → full (held t n) ≡ startPlan A goal capacity start
+    pub fills : n ≡ capacity → full (held t n) ≡ factPlan A goal capacity stop
     fills h =
-        sym (list-full D (A .count) capacity (λ c. subset c start) e a (held t n) (W .below) is-wanted (omega (arith, its-length))) ∙ I .same
+        sym (list-full D (A .count) capacity stop e a (held t n) (W .below) is-wanted (omega (arith, its-length))) ∙ I .same
 
     module _ (other : n ≡ capacity → ⊥) where
       free : n < capacity
@@ -241,16 +241,16 @@ module _ {A : Actions} {goal start capacity count : ℕ} {t₀ t : Columns} {n�
           (omega (arith, free, I .holds .conditions .roomy)) (omega (arith, free, I .holds .actions .roomy))
           (omega (arith, free, I .holds .parents .roomy)) (omega (arith, free, I .holds .depths .roomy))))
 
-      -- it is part of the start
-      pub ends : T (subset new start) → covered (held after (n + 1)) ≡ startPlan A goal capacity start
+      -- it ends the list
+      pub ends : T (stop new) → covered (held after (n + 1)) ≡ factPlan A goal capacity stop
       ends s =
-          sym (list-ends D (A .count) capacity (λ c. subset c start) e a (held t n) (W .below) is-wanted (omega (arith, free, its-length))
+          sym (list-ends D (A .count) capacity stop e a (held t n) (W .below) is-wanted (omega (arith, free, its-length))
           (rw new-is s)
           ∙ ap covered list-is)
           ∙ I .same
 
-      -- it is not, and the list goes on
-      pub grows : T (not (subset new start)) → AtAction A goal start capacity count t₀ n₀ e c d after (n + 1) (a + 1)
+      -- it does not
+      pub grows : T (not (stop new)) → AtAction A goal stop capacity count t₀ n₀ e c d after (n + 1) (a + 1)
       grows s =
           record {
             counted = I .counted;
@@ -262,7 +262,7 @@ module _ {A : Actions} {goal start capacity count : ℕ} {t₀ t : Columns} {n�
             tried = omega (arith, W .below);
             same =
                 rw (add-one a, ← list-is)
-                (sym (list-grows D (A .count) capacity (λ c. subset c start) e a (held t n) (W .below) is-wanted (omega (arith, free, its-length))
+                (sym (list-grows D (A .count) capacity stop e a (held t n) (W .below) is-wanted (omega (arith, free, its-length))
                 (rw new-is s) (omega (arith, I .inside, its-length)))
                 ∙ I .same);
           }

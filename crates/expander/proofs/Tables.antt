@@ -2,6 +2,7 @@
 -- leaves what `Expands` says.
 -- Assumes nothing.
 use mathlib.Core.Path.{_≡_, refl, sym, ap, _∙_, subst}
+use mathlib.Core.Bool.{Bool}
 use mathlib.Core.List.{List, [], _∷_, _++_, map}
 use Prim.Native.Nat.{ℕ, zero, suc, _+_, _-_, _≤_, _<_}
 use native.Mathlib.Nat.{not-suc-le-zero}
@@ -12,7 +13,7 @@ use lib.Seq.{take-suc, getD-set-same, getD-set-other, drop-drop, drop-set-lt}
 use Rattle.planning.specs.Expansion.{Entry, entries}
 use Rattle.planning.specs.Columns.{prefix}
 use Rattle.planning.specs.ColumnLaws.{length-prefix}
-use Rattle.planning.specs.Facts.{Actions, startPlan}
+use Rattle.planning.specs.Facts.{Actions, factPlan}
 use Rattle.expander.specs.declared.Expanded.{Expanded}
 use Rattle.expander.specs.Expands.{Columns, columns, room, held, over, outcomeOf, planIn, Expands}
 use Rattle.expander.specs.ExpandsLaws.{capacity-conditions, capacity-actions, capacity-parents, capacity-depths, capacity-most}
@@ -141,10 +142,10 @@ kept-over : {capacity n : ℕ} {xs₀ xs : List ℕ} → Kept capacity n xs₀ x
 kept-over {capacity} {n} {xs₀} {xs} k h f g e =
     rw (map-prefix f g xs e n (omega (arith, k .roomy)), length-prefix g n, ← k .rest) (sym (take-append-drop n xs))
 
-holds-expands : {A : Actions} {goal start : ℕ} {t₀ t : Columns} (r : Expanded) → Holds (room t₀) (stored r) t₀ t
-    → outcomeOf r t ≡ planIn t₀ A goal start → Expands A goal start t₀ t r
-holds-expands {A} {goal} {start} {t₀} {t} r H e =
-    let list : entries (planIn t₀ A goal start) ≡ held t (stored r) = sym (ap entries e) ∙ outcome-entries r t in
+holds-expands : {A : Actions} {goal : ℕ} {stop : ℕ → Bool} {t₀ t : Columns} (r : Expanded) → Holds (room t₀) (stored r) t₀ t
+    → outcomeOf r t ≡ planIn t₀ A goal stop → Expands A goal stop t₀ t r
+holds-expands {A} {goal} {stop} {t₀} {t} r H e =
+    let list : entries (planIn t₀ A goal stop) ≡ held t (stored r) = sym (ap entries e) ∙ outcome-entries r t in
     record {
       outcome = e;
       conditions = rw list (kept-over (H .conditions) (H .fits) (λ x. x .condition) (entryOf t) (λ i. refl));
@@ -154,7 +155,7 @@ holds-expands {A} {goal} {start} {t₀} {t} r H e =
     }
 
 -- the tables hold the entries of the answer, and its outcome is the plan's
-pub expands : {A : Actions} {goal start capacity : ℕ} {t₀ t : Columns} → capacity ≡ room t₀ → (r : Expanded) → Holds capacity (stored r) t₀ t
-    → outcomeOf r t ≡ startPlan A goal capacity start → Expands A goal start t₀ t r
-expands {A} {goal} {start} {capacity} {t₀} {t} e r H o =
-    holds-expands r (subst (λ (m : ℕ). Holds m (stored r) t₀ t) e H) (o ∙ ap (λ (m : ℕ). startPlan A goal m start) e)
+pub expands : {A : Actions} {goal : ℕ} {stop : ℕ → Bool} {capacity : ℕ} {t₀ t : Columns} → capacity ≡ room t₀ → (r : Expanded) → Holds capacity (stored r) t₀ t
+    → outcomeOf r t ≡ factPlan A goal capacity stop → Expands A goal stop t₀ t r
+expands {A} {goal} {stop} {capacity} {t₀} {t} e r H o =
+    holds-expands r (subst (λ (m : ℕ). Holds m (stored r) t₀ t) e H) (o ∙ ap (λ (m : ℕ). factPlan A goal m stop) e)

@@ -1,14 +1,18 @@
 -- What an expansion answers and leaves in the lent list tables, by the definition of the plan: document 01, "Expansion".
 -- Definitions only.
 use mathlib.Core.Path.{_≡_}
+use mathlib.Core.Bool.{Bool, false}
 use mathlib.Core.List.{List, _++_, map}
 use Prim.Native.Nat.{ℕ, min}
 use lib.ListN.{length, getD, drop}
+use Rattle.masks.specs.Sets.{subset}
 use Rattle.planning.specs.Expansion.{Entry, Outcome, exhausted, covered, full, entries}
 use Rattle.planning.specs.Columns.{entriesOf}
-use Rattle.planning.specs.Facts.{Actions, startPlan}
+use Rattle.planning.specs.Facts.{Actions, factPlan}
 use Rattle.expander.specs.declared.Expanded.{Expanded}
 use Rattle.expander.specs.declared.Expanded.the-variants as X
+use Rattle.expander.specs.declared.Stop.{Stop}
+use Rattle.expander.specs.declared.Stop.the-variants as S
 
 -- ---- the actions, in three rows of masks
 
@@ -52,6 +56,14 @@ held t n = entriesOf (t .conditions) (t .actions) (t .parents) (t .depths) n
 abbrev pub over : (Entry ℕ → ℕ) → List (Entry ℕ) → List ℕ → List ℕ
 over field l xs = map field l ++ drop (length l) xs
 
+-- ---- what ends the list
+
+-- "The list stops at the first entry, 0 included, whose condition is part of the start"; or, document 02, W2, it "takes no start and stops only
+-- when all entries are expanded or number 10 arises"
+abbrev pub endedBy : Stop → ℕ → Bool
+endedBy (S.PartOf start) = λ c. subset c start
+endedBy S.Never = λ c. false
+
 -- ---- the answer
 
 -- what an answer says, of the entries that the tables then hold
@@ -60,14 +72,14 @@ outcomeOf (X.Exhausted n) t = exhausted (held t n)
 outcomeOf (X.Covered n) t = covered (held t n)
 outcomeOf (X.Full n) t = full (held t n)
 
--- document 01's plan, as far as the tables have room
-abbrev pub planIn : Columns → Actions → ℕ → ℕ → Outcome ℕ
-planIn t A goal start = startPlan A goal (room t) start
+-- the plan that a stop ends, as far as the tables have room
+abbrev pub planIn : Columns → Actions → ℕ → (ℕ → Bool) → Outcome ℕ
+planIn t A goal stop = factPlan A goal (room t) stop
 
 -- The answer is the plan's, and "the list tables hold the entries stored, all else untouched".
-pub record Expands (A : Actions) (goal start : ℕ) (before after : Columns) (r : Expanded) : Type 0 where
-  pub outcome : outcomeOf r after ≡ planIn before A goal start
-  pub conditions : after .conditions ≡ over (λ x. x .condition) (entries (planIn before A goal start)) (before .conditions)
-  pub actions : after .actions ≡ over (λ x. x .action) (entries (planIn before A goal start)) (before .actions)
-  pub parents : after .parents ≡ over (λ x. x .parent) (entries (planIn before A goal start)) (before .parents)
-  pub depths : after .depths ≡ over (λ x. x .depth) (entries (planIn before A goal start)) (before .depths)
+pub record Expands (A : Actions) (goal : ℕ) (stop : ℕ → Bool) (before after : Columns) (r : Expanded) : Type 0 where
+  pub outcome : outcomeOf r after ≡ planIn before A goal stop
+  pub conditions : after .conditions ≡ over (λ x. x .condition) (entries (planIn before A goal stop)) (before .conditions)
+  pub actions : after .actions ≡ over (λ x. x .action) (entries (planIn before A goal stop)) (before .actions)
+  pub parents : after .parents ≡ over (λ x. x .parent) (entries (planIn before A goal stop)) (before .parents)
+  pub depths : after .depths ≡ over (λ x. x .depth) (entries (planIn before A goal stop)) (before .depths)

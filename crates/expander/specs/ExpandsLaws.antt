@@ -1,6 +1,7 @@
 -- What a caller of the expansion learns: the tables hold the list of the plan, and the list has the properties that the theory of plans shows.
 -- Assumes nothing.
 use mathlib.Core.Path.{_≡_, refl, sym, ap, _∙_, subst}
+use mathlib.Core.Bool.{Bool}
 use mathlib.Core.List.{List}
 use Prim.Native.Nat.{ℕ, suc, _≤_, _<_}
 use native.Mathlib.Omega.{arith}
@@ -14,7 +15,7 @@ use Rattle.planning.specs.Expansion.{Entry, Outcome, exhausted, covered, full, 
 use Rattle.planning.specs.Progress.{Sound}
 use Rattle.planning.specs.ExpansionLaws.{expand-sound}
 use Rattle.planning.specs.Demand.{FirstIn}
-use Rattle.planning.specs.DemandLaws.{planned-fits, planned-good, planned-action, planned-depth}
+use Rattle.planning.specs.DemandLaws.{planned-fits, planned-good, planned-action, planned-depth, covered-nonempty, exhausted-nonempty}
 use Rattle.planning.specs.Columns.{entryAt}
 use Rattle.planning.specs.ColumnLaws.{length-prefix, getD-prefix}
 use Rattle.planning.specs.Facts.{Actions, unitDomain, WithinFacts}
@@ -99,16 +100,16 @@ outcome-answer (X.Exhausted n) t = ap X.Exhausted (held-length t n)
 outcome-answer (X.Covered n) t = ap X.Covered (held-length t n)
 outcome-answer (X.Full n) t = ap X.Full (held-length t n)
 
-module _ {A : Actions} {goal start : ℕ} {before after : Columns} {r : Expanded} (E : Expands A goal start before after r) where
+module _ {A : Actions} {goal : ℕ} {stop : ℕ → Bool} {before after : Columns} {r : Expanded} (E : Expands A goal stop before after r) where
   abbrev list : List (Entry ℕ)
-  list = entries (planIn before A goal start)
+  list = entries (planIn before A goal stop)
 
   abbrev D : Domain ℕ ℕ ℕ
   D = unitDomain A goal
 
   -- ---- the answer and the entries
 
-  pub answer-is : r ≡ answerOf (planIn before A goal start)
+  pub answer-is : r ≡ answerOf (planIn before A goal stop)
   answer-is = sym (outcome-answer r after) ∙ ap answerOf (E .outcome)
 
   -- the entries read back from the tables are the list of the plan
@@ -124,7 +125,7 @@ module _ {A : Actions} {goal start : ℕ} {before after : Columns} {r : Expanded
   -- ---- how many there are
 
   pub stored-fits : stored r ≤ room before
-  stored-fits = omega (arith, planned-fits (fact-plannable A goal) (room before) (λ c. subset c start), list-length)
+  stored-fits = omega (arith, planned-fits (fact-plannable A goal) (room before) stop, list-length)
 
   pub stored-small : stored r ≤ 4096
   stored-small =
@@ -136,7 +137,7 @@ module _ {A : Actions} {goal start : ℕ} {before after : Columns} {r : Expanded
   pub stored-goal : 0 < stored r → getD (after .conditions) 0 0 ≡ goal
   stored-goal h =
       ap (λ x. x .condition) (entry-held 0 h)
-      ∙ planned-good (fact-plannable A goal) (room before) (λ c. subset c start) (omega (arith, list-length)) .goal-first
+      ∙ planned-good (fact-plannable A goal) (room before) stop (omega (arith, list-length)) .goal-first
 
   module _ (i : ℕ) (h : i < stored r) where
     inside : i < length list
@@ -145,19 +146,19 @@ module _ {A : Actions} {goal start : ℕ} {before after : Columns} {r : Expanded
     pub stored-depth : getD (after .depths) i 0 ≤ i
     stored-depth =
         let e = ap (λ x. x .depth) (entry-held i h) in
-        omega (arith, e, planned-depth (fact-plannable A goal) (room before) (λ c. subset c start) i inside)
+        omega (arith, e, planned-depth (fact-plannable A goal) (room before) stop i inside)
 
     -- the conditions are sets of the table's facts
     pub stored-within : (f : ℕ) → WithinFacts f A goal → T (within f (getD (after .conditions) i 0))
-    stored-within f W = rw (ap (λ x. x .condition) (entry-held i h)) (condition-within A goal (room before) (λ c. subset c start) f W i inside)
+    stored-within f W = rw (ap (λ x. x .condition) (entry-held i h)) (condition-within A goal (room before) stop f W i inside)
 
     module _ (later : 0 < i) where
       pub stored-derived : Derived D (listing D list) i
-      stored-derived = planned-good (fact-plannable A goal) (room before) (λ c. subset c start) (omega (arith, inside)) .derived i later inside
+      stored-derived = planned-good (fact-plannable A goal) (room before) stop (omega (arith, inside)) .derived i later inside
 
       pub stored-action : getD (after .actions) i 0 < A .count
       stored-action =
-          rw (ap (λ x. x .action) (entry-held i h)) (planned-action (fact-plannable A goal) (room before) (λ c. subset c start) i later inside)
+          rw (ap (λ x. x .action) (entry-held i h)) (planned-action (fact-plannable A goal) (room before) stop i later inside)
 
       pub stored-parent : getD (after .parents) i 0 < i
       stored-parent = rw (ap (λ x. x .parent) (entry-held i h)) (stored-derived .parent-before)
@@ -166,21 +167,29 @@ module _ {A : Actions} {goal start : ℕ} {before after : Columns} {r : Expanded
 
 module _ {A : Actions} {goal start : ℕ} {before after : Columns} {n : ℕ} where
   -- the last entry is the first one that the start meets
-  pub covered-first : Expands A goal start before after (X.Covered n) → (i : ℕ) × (n ≡ suc i) × FirstIn (unitDomain A goal) (held after n) start i
+  pub covered-first : Expands A goal (λ c. subset c start) before after (X.Covered n)
+      → (i : ℕ) × (n ≡ suc i) × FirstIn (unitDomain A goal) (held after n) start i
   covered-first E =
       let f = fact-start-first A goal (room before) start (held after n) (sym (E .outcome)) in
       (f .0, omega (arith, f .1, held-length after n), f .2)
 
   -- "No way": no sequence of actions leads from the start to the goal
-  pub exhausted-no-way : Expands A goal start before after (X.Exhausted n) → (w : List ℕ) → Reaches (unitDomain A goal) start w → ⊥
+  pub exhausted-no-way : Expands A goal (λ c. subset c start) before after (X.Exhausted n) → (w : List ℕ) → Reaches (unitDomain A goal) start w → ⊥
   exhausted-no-way E = fact-no-way A goal (room before) start (held after n) (sym (E .outcome))
 
+module _ {A : Actions} {goal : ℕ} {stop : ℕ → Bool} {before after : Columns} {n : ℕ} where
   -- "List full": there are as many entries as the capacity
-  pub full-capacity : Expands A goal start before after (X.Full n) → n ≡ room before
+  pub full-capacity : Expands A goal stop before after (X.Full n) → n ≡ room before
   full-capacity E =
       let P = fact-plannable A goal in
-      let known : Sound (unitDomain A goal) (room before) (λ c. subset c start) (entryIn (unitDomain A goal) (held after n)) (full (held after n)) =
-      subst (λ (o : Outcome ℕ). Sound (unitDomain A goal) (room before) (λ c. subset c start) (entryIn (unitDomain A goal) (entries o)) o)
-      (sym (E .outcome))
-      (expand-sound (unitDomain A goal) (A .count) (room before) (λ c. subset c start) (P .unit-cost) (P .laws .weaker-refl) (P .below-count)) in
+      let known : Sound (unitDomain A goal) (room before) stop (entryIn (unitDomain A goal) (held after n)) (full (held after n)) =
+      subst (λ (o : Outcome ℕ). Sound (unitDomain A goal) (room before) stop (entryIn (unitDomain A goal) (entries o)) o) (sym (E .outcome))
+      (expand-sound (unitDomain A goal) (A .count) (room before) stop (P .unit-cost) (P .laws .weaker-refl) (P .below-count)) in
       omega (arith, known .size, held-length after n)
+
+  -- a list that ended otherwise has an entry
+  pub exhausted-some : Expands A goal stop before after (X.Exhausted n) → 1 ≤ n
+  exhausted-some E = omega (arith, exhausted-nonempty (fact-plannable A goal) (room before) stop (held after n) (sym (E .outcome)), held-length after n)
+
+  pub covered-some : Expands A goal stop before after (X.Covered n) → 1 ≤ n
+  covered-some E = omega (arith, covered-nonempty (fact-plannable A goal) (room before) stop (held after n) (sym (E .outcome)), held-length after n)

@@ -3,13 +3,21 @@
 ghost use mathlib.Core.Path.{_≡_};
 ghost use Prim.Native.Nat.{min};
 ghost use Rattle.masks.specs.Effects.{relevant, regressed};
-ghost use Rattle.expander.specs.Expands.{countOf, actionsOf, columns, capacityOf, Expands};
+ghost use Rattle.expander.specs.Expands.{countOf, actionsOf, columns, capacityOf, endedBy, Expands};
+
+// What ends the list, besides its capacity.
+pub enum Stop {
+    // A condition that is part of this start.
+    PartOf(u64),
+    // Nothing: every entry is expanded (document 02, W2).
+    Never,
+}
 
 // How the list ended, with the number of entries stored.
 pub enum Expanded {
-    // Every entry is expanded and none is part of the start: document 01's no way, number 11.
+    // Every entry is expanded and none ended the list: where there is a start, document 01's no way, number 11.
     Exhausted(usize),
-    // The last entry is part of the start.
+    // The last entry ended it: it is part of the start.
     Covered(usize),
     // One more entry would exceed the capacity: number 10.
     Full(usize),
@@ -53,20 +61,30 @@ fn regress(needs: u64, adds: u64, condition: u64) -> u64
     masks::join(needs, masks::without(condition, adds))
 }
 
-// Lists the conditions from which the actions lead to the goal, nearest first, up to the first that is part of the start.
+// Does a listed condition end the list?
+fn ends_list(stop: Stop, condition: u64) -> bool
+    ensures { λ r. ⌜ r ≡ endedBy stop condition ⌝ }
+{
+    match stop {
+        Stop::PartOf(start) => masks::is_subset(condition, start),
+        Stop::Never => false,
+    }
+}
+
+// Lists the conditions from which the actions lead to the goal, nearest first, up to the first that ends the list.
 // Action a has its masks at a of `needs`, `adds` and `deletes`; entry i stands at i of `conditions`, `actions`, `parents` and `depths`.
 pub fn expand(
     needs: &[u64],
     adds: &[u64],
     deletes: &[u64],
     goal: u64,
-    start: u64,
+    stop: Stop,
     conditions: &mut [u64],
     actions: &mut [u8],
     parents: &mut [u16],
     depths: &mut [u16],
 ) -> Expanded
-    ensures { λ r. ⌜ Expands (actionsOf (now (needs .entry)) (now (adds .entry)) (now (deletes .entry))) goal start
+    ensures { λ r. ⌜ Expands (actionsOf (now (needs .entry)) (now (adds .entry)) (now (deletes .entry))) goal (endedBy stop)
         (columns (now (conditions .entry)) (now (actions .entry)) (now (parents .entry)) (now (depths .entry)))
         (columns (now (conditions .exit)) (now (actions .exit)) (now (parents .exit)) (now (depths .exit))) r ⌝ }
 {
@@ -78,7 +96,7 @@ pub fn expand(
     actions[0] = NO_ACTION;
     parents[0] = 0;
     depths[0] = 0;
-    if masks::is_subset(goal, start) {
+    if ends_list(stop, goal) {
         return Expanded::Covered(1);
     }
     let count = count_of(needs.len(), adds.len(), deletes.len());
@@ -116,7 +134,7 @@ pub fn expand(
                     parents[n] = e as u16;
                     depths[n] = depth + 1;
                     n += 1;
-                    if masks::is_subset(new, start) {
+                    if ends_list(stop, new) {
                         break 'entries Expanded::Covered(n);
                     }
                 }

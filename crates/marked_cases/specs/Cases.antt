@@ -72,7 +72,7 @@ abbrev _is_ : Told → Told → Case
 a is b = record { found = a; expected = b }
 
 -- the list of P1 and P2: the plan for each start is a beginning of it
-abbrev whole : List (Entry ℕ)
+abbrev pub whole : List (Entry ℕ)
 whole =
     entry 0x10 255 0 0 ∷ entry 0x0c 4 0 1 ∷ entry 0x09 2 1 2 ∷ entry 0x06 3 1 2 ∷ entry 0x0a 1 2 3 ∷ entry 0x03 3 2 3 ∷ entry 0x05 0 3 3
     ∷ entry 0x02 3 4 4 ∷ entry 0x01 2 6 4 ∷ []

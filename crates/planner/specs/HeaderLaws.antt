@@ -3,6 +3,7 @@
 use Prim.Native.Nat.{ℕ, _≤_}
 use native.Mathlib.Omega.{arith}
 use mathlib.Core.Path.{_≡_, sym, ap, _∙_, subst}
+use mathlib.Core.Bool.{Bool}
 use mathlib.Core.List.{List}
 use lib.ListN.{length, take}
 use Rattle.refusal.specs.Checked.{Checked, accepted}
@@ -40,17 +41,17 @@ module _ (s : List ℕ) (b : AreBytes s) (h : Header) (e : accepted h ≡ headed
     count-is = header-count ∙ ap (λ (x : Checked Table). length (jobsOf x)) (sym r)
 
     -- an expansion over the loaded rows is one over the table's actions
-    pub expands-table : (needs adds deletes : List ℕ) (start : ℕ) (before after : Columns) (x : Expanded)
+    pub expands-table : (needs adds deletes : List ℕ) (stop : ℕ → Bool) (before after : Columns) (x : Expanded)
         → Expands (actionsOf (take (h .jobs) (loaded (λ j. j .needs) (jobsOf (readTable s)) needs (h .jobs)))
         (take (h .jobs) (loaded (λ j. j .adds) (jobsOf (readTable s)) adds (h .jobs)))
-        (take (h .jobs) (loaded (λ j. j .deletes) (jobsOf (readTable s)) deletes (h .jobs)))) (h .goal) start before after x
-        → Expands (tableActions t) (t .goal) start before after x
-    expands-table needs adds deletes start before after x E =
+        (take (h .jobs) (loaded (λ j. j .deletes) (jobsOf (readTable s)) deletes (h .jobs)))) (h .goal) stop before after x
+        → Expands (tableActions t) (t .goal) stop before after x
+    expands-table needs adds deletes stop before after x E =
         let js = jobsOf (readTable s) in
         let same =
         rows-actions t (read-sound s b t (sym r) .few) in
-        subst (λ (g : ℕ). Expands (tableActions t) g start before after x) header-goal
-        (subst (λ (A : Actions). Expands A (h .goal) start before after x) same
+        subst (λ (g : ℕ). Expands (tableActions t) g stop before after x) header-goal
+        (subst (λ (A : Actions). Expands A (h .goal) stop before after x) same
         (rw (
           load-whole (λ j. j .needs) js needs (h .jobs) header-count,
           load-whole (λ j. j .adds) js adds (h .jobs) header-count,

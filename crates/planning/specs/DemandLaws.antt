@@ -152,6 +152,14 @@ module _ {State Condition : Type 0} {D : Domain State Condition ℕ} {count : �
       → (i : ℕ) → i < length (entries planned) → FirstIn D (entries planned) (state (entryIn D (entries planned) i .condition)) i
   no-dead-lines = no-dead-line D (listing D (entries planned)) (length (entries planned)) planned-fresh
 
+  -- a list that ended has an entry
+  pub covered-nonempty : (l : List (Entry Condition)) → planned ≡ covered l → 0 < length l
+  covered-nonempty l e = let k : Known (covered l) = subst Known e known in omega (arith, k .size)
+
+  -- it does not end early, where no condition ends it
+  pub unending : ((c : Condition) → T (stop c) → ⊥) → (l : List (Entry Condition)) → planned ≡ covered l → ⊥
+  unending never l e = let k : Known (covered l) = subst Known e known in never _ (k .ends)
+
   -- ---- a plan for a start
 
   -- it ends at the first entry that the start meets
@@ -166,6 +174,9 @@ module _ {State Condition : Type 0} {D : Domain State Condition ℕ} {count : �
   module _ (l : List (Entry Condition)) (e : planned ≡ exhausted l) where
     known-exhausted : Known (exhausted l)
     known-exhausted = subst Known e known
+
+    pub exhausted-nonempty : 0 < length l
+    exhausted-nonempty = known-exhausted .progress .good .nonempty
 
     -- each state from which a sequence reaches the goal is covered
     pub covers-all : (s : State) (w : List ℕ) → Reaches D s w → CoveredBy D l s

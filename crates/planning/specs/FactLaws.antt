@@ -1,7 +1,7 @@
 -- The laws of the domain of facts, and demand 3 in it: document 01, "Work on a vehicle".
 -- Assumes nothing.
 use mathlib.Core.Path.{_≡_, refl, sym}
-use mathlib.Core.Bool.{Bool, _&&_}
+use mathlib.Core.Bool.{Bool, false, _&&_}
 use mathlib.Core.List.{List}
 use mathlib.Core.Logic.{_↔_}
 use Prim.Native.Nat.{ℕ, suc, _≤_, _<_}
@@ -16,8 +16,8 @@ use Rattle.planning.specs.Sequence.{Answer, Reaches}
 use Rattle.planning.specs.Expansion.{Entry, exhausted, covered, entries, entryIn, expand}
 use Rattle.planning.specs.ExpansionLaws.{replan}
 use Rattle.planning.specs.Demand.{FirstIn, CoveredBy, tickList, Fewest}
-use Rattle.planning.specs.DemandLaws.{fewest, fewest-transfer, planned-condition, no-dead-lines, start-first, covers-all, no-way, covered-iff, distance}
-use Rattle.planning.specs.Facts.{Actions, factDomain, unitDomain, startPlan, WithinFacts}
+use Rattle.planning.specs.DemandLaws.{fewest, fewest-transfer, planned-condition, no-dead-lines, unending, start-first, covers-all, no-way, covered-iff, distance}
+use Rattle.planning.specs.Facts.{Actions, factDomain, unitDomain, startPlan, shiftPlan, WithinFacts}
 
 pub fact-laws : (A : Actions) (cost : ℕ → ℕ) (goal : ℕ) → Laws (factDomain A cost goal)
 fact-laws A cost goal =
@@ -91,6 +91,12 @@ module _ (A : Actions) (goal : ℕ) where
           → (s : ℕ) → T (within f s) → CoveredBy D planned s → Fewest D tick planned s
       fact-fewest-by tick alike s w c =
           fewest-transfer D (λ s. T (within f s)) result-within (tickList D planned) tick (λ s h. sym (alike s h)) planned s w (fact-fewest s c)
+
+  -- ---- document 02's plan for the whole shift, W2
+
+  -- nothing ends it early
+  pub fact-unending : (capacity : ℕ) (l : List (Entry ℕ)) → shiftPlan A goal capacity ≡ covered l → ⊥
+  fact-unending capacity = unending fact-plannable capacity (λ c. false) (λ c t. t)
 
   -- ---- document 01's plan, for a start
 

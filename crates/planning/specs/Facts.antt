@@ -1,6 +1,6 @@
 -- The domain of document 01: states and conditions are sets of facts, and actions are the jobs of a table, by their numbers.
 -- Definitions only; FactLaws.antt has the laws and the theorems.
-use mathlib.Core.Bool.{true, _&&_}
+use mathlib.Core.Bool.{Bool, true, false, _&&_}
 use Prim.Native.Nat.{ℕ, _<_}
 use lib.Dec.{T, ltb}
 use Rattle.masks.specs.Sets.{subset, within}
@@ -40,9 +40,17 @@ factDomain A cost goal =
 abbrev pub unitDomain : Actions → ℕ → Domain ℕ ℕ ℕ
 unitDomain A goal = factDomain A (λ a. 1) goal
 
+-- the expansion of a goal, with the test of a condition that ends the list
+abbrev pub factPlan : Actions → ℕ → ℕ → (ℕ → Bool) → Outcome ℕ
+factPlan A goal capacity stop = expand (unitDomain A goal) (A .count) capacity stop
+
 -- document 01's plan: "The list stops at the first entry, 0 included, whose condition is part of the start."
 abbrev pub startPlan : Actions → ℕ → ℕ → ℕ → Outcome ℕ
-startPlan A goal capacity start = expand (unitDomain A goal) (A .count) capacity (λ c. subset c start)
+startPlan A goal capacity start = factPlan A goal capacity (λ c. subset c start)
+
+-- document 02, W2: a plan that "takes no start and stops only when all entries are expanded or number 10 arises"
+abbrev pub shiftPlan : Actions → ℕ → ℕ → Outcome ℕ
+shiftPlan A goal capacity = factPlan A goal capacity (λ c. false)
 
 -- The goal, the needs and the adds have no bit at or above f. Of the deletes nothing is asked: they only take facts away.
 pub record WithinFacts (f : ℕ) (A : Actions) (goal : ℕ) : Type 0 where

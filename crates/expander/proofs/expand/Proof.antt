@@ -13,7 +13,7 @@ use Rattle.base.specs.Bools.{holds, fails}
 use Rattle.masks.specs.Sets.{subset}
 use Rattle.planning.specs.Facts.{Actions}
 use Rattle.expander.specs.declared.Expanded.the-variants as X
-use Rattle.expander.specs.Expands.{actionsOf, Columns, columns, room}
+use Rattle.expander.specs.Expands.{actionsOf, Columns, columns, room, endedBy}
 use Rattle.expander.proofs.Tables.{Holds, holds-none, holds-on, expands}
 use Rattle.expander.proofs.Loops.{InRows, AtEntry, AtAction, AtListed, Wanted, in-rows, no-room, root-held, goal-met, first-entry, exhausts}
 use Rattle.expander.proofs.Loops.{enter, leave, skip-irrelevant, skip-listed, fills, holds-new, ends, grows, pass, clash}
@@ -21,32 +21,32 @@ use Rattle.expander.proofs.expand.Statement.{statement}
 use Rattle.expander.proofs.expand.Tie as tie
 
 abbrev Inv-search : tie.InvT-search
-Inv-search needs adds deletes goal start conditions actions parents depths capacity count n e condition depth next a new k₀ k =
+Inv-search needs adds deletes goal stop conditions actions parents depths capacity count n e condition depth next a new k₀ k =
     AtListed conditions n new k
 
 abbrev μ-search : tie.MeasureT-search
-μ-search needs adds deletes goal start conditions actions parents depths capacity count n e condition depth next a new k₀ k = n - k
+μ-search needs adds deletes goal stop conditions actions parents depths capacity count n e condition depth next a new k₀ k = n - k
 
 abbrev Inv-actions : tie.InvT-actions
-Inv-actions needs adds deletes goal start conditions₀ actions₀ parents₀ depths₀ capacity count n₀ e condition depth next₀ conditions actions
+Inv-actions needs adds deletes goal stop conditions₀ actions₀ parents₀ depths₀ capacity count n₀ e condition depth next₀ conditions actions
     parents depths n next =
     InRows needs adds deletes count
-    × AtAction (actionsOf needs adds deletes) goal start capacity count (columns conditions₀ actions₀ parents₀ depths₀) n₀ e condition depth
+    × AtAction (actionsOf needs adds deletes) goal (endedBy stop) capacity count (columns conditions₀ actions₀ parents₀ depths₀) n₀ e condition depth
     (columns conditions actions parents depths) n next
 
 abbrev μ-actions : tie.MeasureT-actions
-μ-actions needs adds deletes goal start conditions₀ actions₀ parents₀ depths₀ capacity count n₀ e condition depth next₀ conditions actions
+μ-actions needs adds deletes goal stop conditions₀ actions₀ parents₀ depths₀ capacity count n₀ e condition depth next₀ conditions actions
     parents depths n next =
     count - next
 
 abbrev Inv-entries : tie.InvT-entries
-Inv-entries needs adds deletes goal start conditions₀ actions₀ parents₀ depths₀ capacity count n₀ e₀ conditions actions parents depths n e =
+Inv-entries needs adds deletes goal stop conditions₀ actions₀ parents₀ depths₀ capacity count n₀ e₀ conditions actions parents depths n e =
     InRows needs adds deletes count
-    × AtEntry (actionsOf needs adds deletes) goal start capacity count (columns conditions₀ actions₀ parents₀ depths₀) n₀
+    × AtEntry (actionsOf needs adds deletes) goal (endedBy stop) capacity count (columns conditions₀ actions₀ parents₀ depths₀) n₀
     (columns conditions actions parents depths) n e
 
 abbrev μ-entries : tie.MeasureT-entries
-μ-entries needs adds deletes goal start conditions₀ actions₀ parents₀ depths₀ capacity count n₀ e₀ conditions actions parents depths n e = capacity - e
+μ-entries needs adds deletes goal stop conditions₀ actions₀ parents₀ depths₀ capacity count n₀ e₀ conditions actions parents depths n e = capacity - e
 
 -- ---- the places that several answers look back at
 
@@ -156,8 +156,8 @@ slice-write-depths c =
     let H = holds-none (lent (c .before .before .before .before .before .before .before .before .before)) (c .before .capacity-of .ensures) in
     omega (arith, H .depths .roomy, c .if1 .left)
 
-is-subset-requires : tie.Need-is-subset-requires Inv-search μ-search Inv-actions μ-actions Inv-entries μ-entries
-is-subset-requires c κs = tt
+ends-list-requires : tie.Need-ends-list-requires Inv-search μ-search Inv-actions μ-actions Inv-entries μ-entries
+ends-list-requires c κs = tt
 
 same-length : tie.Need-same-length Inv-search μ-search Inv-actions μ-actions Inv-entries μ-entries
 same-length c = search needs
@@ -176,7 +176,7 @@ returns-2 c =
     let s = c .before .before .before .before .before .before .before .before .before .before .before in
     let e = c .before .before .before .capacity-of .ensures in
     let some : 0 < c .before .before .before .capacity-of .result = omega (arith, c .before .before .if1 .left) in
-    expands e (X.Covered 1) (root-held _ (lent s) e some) (goal-met _ _ _ (lent s) e some (holds _ (sym (c .before .is-subset .ensures) ∙ c .if2 .taken)))
+    expands e (X.Covered 1) (root-held _ (lent s) e some) (goal-met _ _ _ (lent s) e some (holds _ (sym (c .before .ends-list .ensures) ∙ c .if2 .taken)))
 
 count-of-requires : tie.Need-count-of-requires Inv-search μ-search Inv-actions μ-actions Inv-entries μ-entries
 count-of-requires c κs = tt
@@ -186,7 +186,7 @@ entries-holds c =
     let s = c .before .before .before .before .before .before .before .before .before .before .before .before in (
       in-rows (c .count-of .ensures),
       first-entry _ _ _ (lent s) (c .before .before .before .before .capacity-of .ensures) (omega (arith, c .before .before .before .if1 .left))
-          (c .count-of .ensures) (fails _ (sym (c .before .before .is-subset .ensures) ∙ c .before .if2 .left)),
+          (c .count-of .ensures) (fails _ (sym (c .before .before .ends-list .ensures) ∙ c .before .if2 .left)),
     )
 
 mul-condition : tie.Need-mul-condition Inv-search μ-search Inv-actions μ-actions Inv-entries μ-entries
@@ -202,7 +202,7 @@ slice-read-depth : tie.Need-slice-read-depth Inv-search μ-search Inv-actions μ
 slice-read-depth c = search needs
 
 actions-holds : tie.Need-actions-holds Inv-search μ-search Inv-actions μ-actions Inv-entries μ-entries
-actions-holds c = (c .before .before .before .entries .inv .0, enter (c .before .before .before .entries .inv .1) (c .before .before .if3 .left))
+actions-holds c = (c .before .before .before .entries .inv .0, enter (c .before .before .before .entries .inv .1) (λ q. omega (arith, c .before .before .if3 .left)))
 
 add-next : tie.Need-add-next Inv-search μ-search Inv-actions μ-actions Inv-entries μ-entries
 add-next c = search needs
@@ -248,8 +248,8 @@ slice-read-is-subset c =
     let s = c .before .before in
     omega (arith, s .search .inv .inside, c .before .if5 .left, action-of s .actions .inv .1 .holds)
 
-is-subset-requires-2 : tie.Need-is-subset-requires-2 Inv-search μ-search Inv-actions μ-actions Inv-entries μ-entries
-is-subset-requires-2 c κs = tt
+is-subset-requires : tie.Need-is-subset-requires Inv-search μ-search Inv-actions μ-actions Inv-entries μ-entries
+is-subset-requires c κs = tt
 
 add-k : tie.Need-add-k Inv-search μ-search Inv-actions μ-actions Inv-entries μ-entries
 add-k c = search needs
@@ -259,7 +259,7 @@ search-less c = omega (arith, c .before .before .before .before .search .inv .in
 
 search-again : tie.Need-search-again Inv-search μ-search Inv-actions μ-actions Inv-entries μ-entries
 search-again c =
-    pass (c .before .before .before .before .search .inv) (c .before .before .before .if5 .left) (fails _ (sym (c .before .is-subset2 .ensures) ∙ c .if6 .left))
+    pass (c .before .before .before .before .search .inv) (c .before .before .before .if5 .left) (fails _ (sym (c .before .is-subset .ensures) ∙ c .if6 .left))
 
 mul-conditions : tie.Need-mul-conditions Inv-search μ-search Inv-actions μ-actions Inv-entries μ-entries
 mul-conditions c = search needs
@@ -304,8 +304,8 @@ slice-write-depths-2 c =
 add-n : tie.Need-add-n Inv-search μ-search Inv-actions μ-actions Inv-entries μ-entries
 add-n c = search needs
 
-is-subset-requires-3 : tie.Need-is-subset-requires-3 Inv-search μ-search Inv-actions μ-actions Inv-entries μ-entries
-is-subset-requires-3 c κs = tt
+ends-list-requires-2 : tie.Need-ends-list-requires-2 Inv-search μ-search Inv-actions μ-actions Inv-entries μ-entries
+ends-list-requires-2 c κs = tt
 
 actions-less : tie.Need-actions-less Inv-search μ-search Inv-actions μ-actions Inv-entries μ-entries
 actions-less c = search needs
@@ -314,7 +314,7 @@ actions-again : tie.Need-actions-again Inv-search μ-search Inv-actions μ-actio
 actions-again c =
     let s = c .before .before .before .before in
     let x = action-of (s .before) .actions in
-    let unmet = fails _ (sym (c .before .is-subset3 .ensures) ∙ c .if9 .left) in
+    let unmet = fails _ (sym (c .before .ends-list2 .ensures) ∙ c .if9 .left) in
     (x .inv .0, grows (x .inv .1) (new-wanted s (c .before .before .before .if7 .taken)) (c .before .before .if8 .left) unmet)
 
 actions-less-2 : tie.Need-actions-less-2 Inv-search μ-search Inv-actions μ-actions Inv-entries μ-entries
@@ -347,7 +347,7 @@ entries-less c =
 entries-again : tie.Need-entries-again Inv-search μ-search Inv-actions μ-actions Inv-entries μ-entries
 entries-again c =
     let x = c .before .before .before .before .before .entries in
-    (x .inv .0, leave (x .inv .1) (c .before .before .before .before .if3 .left) (c .before .actions .inv .1) (c .actions-test .left))
+    (x .inv .0, leave (x .inv .1) (λ q. omega (arith, c .before .before .before .before .if3 .left)) (c .before .actions .inv .1) (c .actions-test .left))
 
 same-length-5 : tie.Need-same-length-5 Inv-search μ-search Inv-actions μ-actions Inv-entries μ-entries
 same-length-5 c = entry-held (c .before) .conditions .same-length
@@ -362,7 +362,7 @@ same-length-8 : tie.Need-same-length-8 Inv-search μ-search Inv-actions μ-actio
 same-length-8 c = entry-held (c .before) .depths .same-length
 
 returns-3 : tie.Need-returns-3 Inv-search μ-search Inv-actions μ-actions Inv-entries μ-entries
-returns-3 c = expands (room-of (c .before)) (X.Exhausted _) (entry-held (c .before)) (exhausts (c .before .entries .inv .1) (c .if3 .taken))
+returns-3 c = expands (room-of (c .before)) (X.Exhausted _) (entry-held (c .before)) (exhausts (c .before .entries .inv .1) (omega (arith, c .if3 .taken)))
 
 same-length-9 : tie.Need-same-length-9 Inv-search μ-search Inv-actions μ-actions Inv-entries μ-entries
 same-length-9 c = action-held (action-of (c .before .before .before)) .conditions .same-length
@@ -401,7 +401,7 @@ returns-5 c =
     let W = new-wanted (c .before .before .before .before) (c .before .before .before .if7 .taken) in
     expands (room-of (entry-of x)) (X.Covered (x .actions .n + 1))
     (holds-on (entry-held (entry-of x)) (holds-new J W (c .before .before .if8 .left)) (omega (arith, J .grown)))
-    (ends J W (c .before .before .if8 .left) (holds _ (sym (c .before .is-subset3 .ensures) ∙ c .if9 .taken)))
+    (ends J W (c .before .before .if8 .left) (holds _ (sym (c .before .ends-list2 .ensures) ∙ c .if9 .taken)))
 
 pub expand-spec : {M : Type 1} → statement M
 expand-spec =
@@ -419,7 +419,7 @@ expand-spec =
     slice-write-actions
     slice-write-parents
     slice-write-depths
-    is-subset-requires
+    ends-list-requires
     same-length
     same-length-2
     same-length-3
@@ -446,7 +446,7 @@ expand-spec =
     search-holds
     mul-is-subset
     slice-read-is-subset
-    is-subset-requires-2
+    is-subset-requires
     add-k
     search-less
     search-again
@@ -461,7 +461,7 @@ expand-spec =
     mul-depths
     slice-write-depths-2
     add-n
-    is-subset-requires-3
+    ends-list-requires-2
     actions-less
     actions-again
     actions-less-2

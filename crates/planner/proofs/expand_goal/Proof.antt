@@ -5,6 +5,7 @@ use mathlib.Core.Path.{sym}
 use Prim.Native.Nat.{_-_}
 use lib.Seq.{length-take-le}
 use borrow.Author.Needs.{needs}
+use Rattle.expander.specs.Expands.{endedBy}
 use Rattle.planner.specs.HeaderLaws.{header-count, header-few, expands-table}
 use Rattle.planner.proofs.expand_goal.Statement.{statement}
 use Rattle.planner.proofs.expand_goal.Tie as tie
@@ -58,7 +59,7 @@ returns : tie.Need-returns
 returns c =
     let a = c .before .before .before .before .before .before .before .before .before .before .before .before .before .before .before .before .before .before .before .before .before .before .before .before .before .before .before .before in
     let l = c .before .before .before .before .before .before .before .before .before .before .before .before .before .before .before .before .before .before .before .load-jobs .ensures in
-    λ t e. expands-table (a .args .table .now) (λ i. c .before .before .before .before .before .before .before .before .before .before .before .before .before .before .before .before .before .before .before .before .before .before .before .before .before .before .before .shared-slice-known .given i .fits) (a .args .header) (a .pre) t e _ _ _ (a .args .start) _ _ _
+    λ t e. expands-table (a .args .table .now) (λ i. c .before .before .before .before .before .before .before .before .before .before .before .before .before .before .before .before .before .before .before .before .before .before .before .before .before .before .before .shared-slice-known .given i .fits) (a .args .header) (a .pre) t e _ _ _ (endedBy (a .args .stop)) _ _ _
     (rw (l .0, l .1, l .2) at (c .before .before .before .before .before .before .before .before .expand .ensures))
 
 pub expand-goal-spec : {M : Type 1} → statement M

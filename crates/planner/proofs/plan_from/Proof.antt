@@ -5,6 +5,7 @@ use Prim.Native.Nat.{_-_}
 use borrow.Author.Needs.{needs}
 use Rattle.table.specs.Read.{readTable}
 use Rattle.table.specs.ReadLaws.{headed-sound}
+use Rattle.expander.specs.ExpandsLaws.{covered-some}
 use Rattle.planner.specs.Plan.{answerOf}
 use Rattle.planner.specs.PlanLaws.{lays-from, lays-full, lays-no-way, stored-from}
 use Rattle.planner.proofs.plan_from.Statement.{statement}
@@ -28,12 +29,12 @@ refused-requires-2 c κs = search needs
 enum-known-n-3 : tie.Need-enum-known-n-3
 enum-known-n-3 c = search needs
 
-lay-tree-requires : tie.Need-lay-tree-requires
-lay-tree-requires c κs =
+lay-plan-requires : tie.Need-lay-plan-requires
+lay-plan-requires c κs =
     let a = c .before .before .before .before .before .before .before .before .before .before .before .before .before .before .before .before .before .before .before .before .before .before .before .before .before .before .before in
     let f = headed-sound (readTable (a .args .table .now)) (a .pre) in
-    let E = c .before .before .before .before .before .before .before .before .before .before .before .before .before .before .before .before .expand-goal .ensures (f .0) (f .1) in
-    rw (← f .1) (stored-from (f .0) (a .args .start) _ _ _ (rw (c .before .before .before .before .before .before .n3 .given .1) at E))
+    let E = rw (c .before .before .before .before .before .before .n3 .given .1) at (c .before .before .before .before .before .before .before .before .before .before .before .before .before .before .before .before .expand-goal .ensures (f .0) (f .1)) in
+    rw (← f .1) (stored-from (f .0) _ _ _ _ E (covered-some E))
 
 same-length : tie.Need-same-length
 same-length c = search needs
@@ -50,7 +51,7 @@ same-length-4 c = search needs
 returns : tie.Need-returns
 returns c =
     let a = c .before .before .before .before .before .before .before .before .before .before .before .before .before .before .before .before .before .before .before .before .before .before .before in
-    λ t e. lays-full t (a .args .start) _ _ _ _ (a .args .tree .now) _ (c .before .before .before .before .before .before .before .before .before .before .before .before .expand-goal .ensures t e) (c .before .before .n .given .1) (ap answerOf (c .refused .ensures))
+    λ t e. lays-full t (a .args .start) _ _ _ (c .before .before .before .before .before .before .before .before .before .before .before .before .expand-goal .ensures t e) (a .args .tree .now) _ _ (c .before .before .n .given .1) (ap answerOf (c .refused .ensures))
 
 same-length-5 : tie.Need-same-length-5
 same-length-5 c = search needs
@@ -67,7 +68,7 @@ same-length-8 c = search needs
 returns-2 : tie.Need-returns-2
 returns-2 c =
     let a = c .before .before .before .before .before .before .before .before .before .before .before .before .before .before .before .before .before .before .before .before .before .before .before in
-    λ t e. lays-no-way t (a .args .start) _ _ _ _ (a .args .tree .now) _ (c .before .before .before .before .before .before .before .before .before .before .before .before .expand-goal .ensures t e) (c .before .before .n2 .given .1) (ap answerOf (c .refused2 .ensures))
+    λ t e. lays-no-way t (a .args .start) _ _ _ (c .before .before .before .before .before .before .before .before .before .before .before .before .expand-goal .ensures t e) (a .args .tree .now) _ _ (c .before .before .n2 .given .1) (ap answerOf (c .refused2 .ensures))
 
 same-length-9 : tie.Need-same-length-9
 same-length-9 c = search needs
@@ -87,8 +88,8 @@ same-length-13 c = search needs
 returns-3 : tie.Need-returns-3
 returns-3 c =
     let a = c .before .before .before .before .before .before .before .before .before .before .before .before .before .before .before .before .before .before .before .before .before .before .before .before .before .before .before .before .before .before in
-    λ t e. lays-from t (a .args .start) _ _ _ (a .args .tree .now) _ _ (c .before .before .before .before .before .before .before .before .before .before .before .before .before .before .before .before .before .before .before .expand-goal .ensures t e)
-    (rw (c .before .before .before .before .before .before .before .before .before .n3 .given .1) (c .before .before .lay-tree .ensures t e))
+    λ t e. lays-from t (a .args .start) _ _ _ (c .before .before .before .before .before .before .before .before .before .before .before .before .before .before .before .before .before .before .before .expand-goal .ensures t e) (a .args .tree .now) _ _
+    (rw (c .before .before .before .before .before .before .before .before .before .n3 .given .1) (c .before .before .lay-plan .ensures t e))
 
 pub plan-from-spec : {M : Type 1} → statement M
 plan-from-spec =
@@ -100,7 +101,7 @@ plan-from-spec =
     enum-known-n-2
     refused-requires-2
     enum-known-n-3
-    lay-tree-requires
+    lay-plan-requires
     same-length
     same-length-2
     same-length-3
