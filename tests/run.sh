@@ -128,7 +128,7 @@ if [ -z "$compiler" ]; then
     finish
 fi
 
-for program in plan stack; do
+for program in plan shift stack; do
     if $compiler -std=c99 -Wall -Wextra -Werror -O1 -Iinclude examples/c/$program.c "$archive" -o "$work/$program"; then
         ok "examples/c/$program.c is compiled"
     else
@@ -141,6 +141,8 @@ for folder in truck_two_axles no_way damaged_table; do
     "$work/plan" examples/$folder/bay.tab examples/$folder/start.bay >"$work/printed" 2>&1
     same "examples/c/plan on $folder" examples/c/expected_plan_$folder.txt "$work/printed"
 done
+"$work/shift" examples/trailer/bay.tab 02 01 08 10 >"$work/printed" 2>&1
+same "examples/c/shift on trailer" examples/c/expected_shift.txt "$work/printed"
 (ulimit -s 256 && "$work/stack") >"$work/printed" 2>&1
 same "examples/c/stack on a stack of 256 KiB" examples/c/expected_stack.txt "$work/printed"
 

@@ -1,4 +1,5 @@
-//! Document 01 in plain Rust: table reader and writer, plan, tree reader and tick, job card, and the text of `bayplan`.
+//! Document 01 in plain Rust: table reader and writer, plan, tree reader and tick, job card, and the text of `bayplan`; and of document 02
+//! what has landed.
 //!
 //! It is written from the paper alone, to be compared with the proved library, and favours plainness over speed. Quotations in
 //! the comments are from document 01, or from document 02 where they name it.
@@ -280,8 +281,8 @@ pub enum Ending {
     Covered,
     /// A condition to be stored would exceed the capacity.
     Full,
-    /// Every entry is expanded and none is part of the start.
-    NoWay,
+    /// Every entry is expanded and none is part of the start, if there is one.
+    Exhausted,
 }
 
 /// "A job serves condition c when it adds a fact of c and deletes none."
@@ -294,14 +295,16 @@ pub fn condition_before(job: &Job, condition: u64) -> u64 {
     job.needs | (condition & !job.adds)
 }
 
-/// The list of document 01's Expansion.
-pub fn expand(table: &Table, start: u64, capacity: usize) -> (Vec<Entry>, Ending) {
+/// The list of document 01's Expansion; without a start that of document 02, W2, which "stops only when all entries are expanded or number 10
+/// arises".
+pub fn expand(table: &Table, start: Option<u64>, capacity: usize) -> (Vec<Entry>, Ending) {
+    let covers_start = |condition| start.is_some_and(|start| is_part(condition, start));
     let mut list: Vec<Entry> = Vec::new();
     if capacity == 0 {
         return (list, Ending::Full);
     }
     list.push(Entry { condition: table.goal, job: NO_JOB, parent: 0, depth: 0 });
-    if is_part(table.goal, start) {
+    if covers_start(table.goal) {
         return (list, Ending::Covered);
     }
     let mut expanded = 0;
@@ -319,13 +322,13 @@ pub fn expand(table: &Table, start: u64, capacity: usize) -> (Vec<Entry>, Ending
                 return (list, Ending::Full);
             }
             list.push(Entry { condition, job: number as u8, parent: expanded as u16, depth: parent.depth + 1 });
-            if is_part(condition, start) {
+            if covers_start(condition) {
                 return (list, Ending::Covered);
             }
         }
         expanded += 1;
     }
-    (list, Ending::NoWay)
+    (list, Ending::Exhausted)
 }
 
 /// The tree of a list: FALLBACK n; CONDITION of entry 0; for each later entry SEQUENCE 2, CONDITION, JOB; END.
@@ -400,6 +403,25 @@ impl Lent {
         }
     }
 
+    fn store(&mut self, list: &[Entry]) {
+        for (i, entry) in list.iter().enumerate() {
+            self.conditions[i] = entry.condition;
+            self.jobs[i] = entry.job;
+            self.parents[i] = entry.parent;
+            self.depths[i] = entry.depth;
+        }
+    }
+
+    /// The tree's bytes, or stop 12.
+    fn store_tree(&mut self, list: &[Entry]) -> Result<usize, Refusal> {
+        let tree = tree_bytes(list);
+        if self.tree.len() < tree.len() {
+            return refuse(12, list.len());
+        }
+        self.tree[..tree.len()].copy_from_slice(&tree);
+        Ok(tree.len())
+    }
+
     fn capacity(&self) -> usize {
         let lengths = [self.conditions.len(), self.jobs.len(), self.parents.len(), self.depths.len(), MOST_ENTRIES];
         lengths.into_iter().min().expect("five of them")
@@ -421,32 +443,28 @@ pub fn plan(table: &[u8], held: u64, unread: u64, lent: &mut Lent) -> Result<Pla
     if unread != 0 {
         return refuse(9, 0);
     }
-    let (list, ending) = expand(&table, held, lent.capacity());
-    let n = list.len();
-    for (i, entry) in list.iter().enumerate() {
-        lent.conditions[i] = entry.condition;
-        lent.jobs[i] = entry.job;
-        lent.parents[i] = entry.parent;
-        lent.depths[i] = entry.depth;
-    }
+    let (list, ending) = expand(&table, Some(held), lent.capacity());
+    lent.store(&list);
     match ending {
-        Ending::Full => return refuse(10, n),
-        Ending::NoWay => return refuse(11, n),
+        Ending::Full => return refuse(10, list.len()),
+        Ending::Exhausted => return refuse(11, list.len()),
         Ending::Covered => {}
     }
-    let tree = tree_bytes(&list);
-    if lent.tree.len() < tree.len() {
-        return refuse(12, n);
-    }
-    lent.tree[..tree.len()].copy_from_slice(&tree);
+    let tree_bytes = lent.store_tree(&list)?;
     // The list stops at the covering entry, so that is its last.
-    let way = way_from(&list, n - 1);
-    Ok(Planned {
-        entries: n,
-        tree_bytes: tree.len(),
-        way_jobs: way.len(),
-        way_minutes: minutes(seconds_of(&table, &way)),
-    })
+    let way = way_from(&list, list.len() - 1);
+    Ok(Planned { entries: list.len(), tree_bytes, way_jobs: way.len(), way_minutes: minutes(seconds_of(&table, &way)) })
+}
+
+/// Plans for the whole shift (document 02, W2), stops 1 to 7, 10 and 12: the entries and the bytes of the tree.
+pub fn plan_shift(table: &[u8], lent: &mut Lent) -> Result<(usize, usize), Refusal> {
+    let table = read_table(table)?;
+    let (list, ending) = expand(&table, None, lent.capacity());
+    lent.store(&list);
+    if ending == Ending::Full {
+        return refuse(10, list.len());
+    }
+    Ok((list.len(), lent.store_tree(&list)?))
 }
 
 // ---- the tree

@@ -42,6 +42,21 @@ extern "C" {
         tree_len: usize,
         answer: *mut u64,
     ) -> u64;
+    fn bay_plan_shift(
+        table: *const u8,
+        table_len: usize,
+        conditions: *mut u64,
+        conditions_len: usize,
+        jobs: *mut u8,
+        jobs_len: usize,
+        parents: *mut u16,
+        parents_len: usize,
+        depths: *mut u16,
+        depths_len: usize,
+        tree: *mut u8,
+        tree_len: usize,
+        answer: *mut u64,
+    ) -> u64;
     fn bay_tick(
         table: *const u8,
         table_len: usize,
@@ -152,6 +167,26 @@ pub fn plan(table: &[u8], held: u64, unread: u64, lent: &mut Lent) -> [u64; 5] {
             table.len(),
             held,
             unread,
+            lent.conditions.as_mut_ptr(),
+            lent.conditions.len(),
+            lent.jobs.as_mut_ptr(),
+            lent.jobs.len(),
+            lent.parents.as_mut_ptr(),
+            lent.parents.len(),
+            lent.depths.as_mut_ptr(),
+            lent.depths.len(),
+            lent.tree.as_mut_ptr(),
+            lent.tree.len(),
+            answer,
+        )
+    })
+}
+
+pub fn plan_shift(table: &[u8], lent: &mut Lent) -> [u64; 3] {
+    answer_of(|answer| unsafe {
+        bay_plan_shift(
+            table.as_ptr(),
+            table.len(),
             lent.conditions.as_mut_ptr(),
             lent.conditions.len(),
             lent.jobs.as_mut_ptr(),

@@ -19,11 +19,12 @@ fn reached(function: &'static str, number: u64) {
 }
 
 /// The numbers that each function can give.
-const NUMBERS: [(&str, &[u64]); 8] = [
+const NUMBERS: [(&str, &[u64]); 9] = [
     ("read_table", &[0, 1, 2, 3, 4, 5, 6, 7]),
     ("read_job", &[0, 1, 2, 3, 4, 5, 6, 7, 16]),
     ("write_table", &[0, 3, 4, 5, 6, ffi::TOO_SHORT, ffi::UNEVEN]),
     ("plan", &[0, 1, 2, 3, 4, 5, 6, 7, 8, 9, 10, 11, 12]),
+    ("plan_shift", &[0, 1, 2, 3, 4, 5, 6, 7, 10, 12]),
     ("tick", &[0, 1, 2, 3, 4, 5, 6, 7, 8, 13, 14, 15]),
     ("open", &[0, 1, 2, 3, 4, 5, 6, 7, 8]),
     ("read_outside", &[0, 1, 2, 3, 4, 5, 6, 7, 8]),
@@ -73,6 +74,19 @@ fn same<T: PartialEq + std::fmt::Debug>(library: T, engine: T, case: impl Fn() -
 fn first_difference<T: PartialEq + std::fmt::Debug>(name: &str, library: &[T], engine: &[T]) -> Option<String> {
     let at = (0..library.len()).find(|i| library[*i] != engine[*i])?;
     Some(format!("{name}[{at}] of {}: library {:x?}, engine {:x?}", library.len(), library[at], engine[at]))
+}
+
+fn same_lent(library: &Lent, engine: &Lent, case: impl Fn() -> String) {
+    let differences = [
+        first_difference("conditions", &library.conditions, &engine.conditions),
+        first_difference("jobs", &library.jobs, &engine.jobs),
+        first_difference("parents", &library.parents, &engine.parents),
+        first_difference("depths", &library.depths, &engine.depths),
+        first_difference("tree", &library.tree, &engine.tree),
+    ];
+    if let Some(difference) = differences.into_iter().flatten().next() {
+        panic!("{}\n  {difference}", case());
+    }
 }
 
 pub fn read_table(bytes: &[u8]) -> Result<Table, Refusal> {
@@ -128,7 +142,33 @@ pub fn write_table(
     (result, out)
 }
 
-/// Plans into slices of these lengths: conditions, jobs, parents, depths, tree.
+/// One plan into slices of these lengths: conditions, jobs, parents, depths, tree.
+fn into_lent<T, const N: usize>(
+    function: &'static str,
+    table: &[u8],
+    lengths: [usize; 5],
+    pattern: u64,
+    operands: impl Fn() -> String,
+    by_engine: impl Fn(&[u8], &mut Lent) -> Result<T, Refusal>,
+    words: impl Fn(&T) -> [u64; N],
+    by_library: impl Fn(&[u8], &mut Lent) -> [u64; N],
+) -> (Result<T, Refusal>, Lent) {
+    let mut lent = Lent::filled(lengths, pattern);
+    let mut library_lent = lent.clone();
+    let result = by_engine(table, &mut lent);
+    let expected = match &result {
+        Ok(planned) => words(planned),
+        Err(refusal) => refused(refusal),
+    };
+    let copy = table.to_vec();
+    let case = || format!("{function} {} {} lent {lengths:?}", hex(table), operands());
+    reached(function, expected[0]);
+    same(by_library(&copy, &mut library_lent), expected, case);
+    same(copy.as_slice(), table, case);
+    same_lent(&library_lent, &lent, case);
+    (result, lent)
+}
+
 pub fn plan(
     table: &[u8],
     held: u64,
@@ -136,31 +176,30 @@ pub fn plan(
     lengths: [usize; 5],
     pattern: u64,
 ) -> (Result<Planned, Refusal>, Lent) {
-    let mut lent = Lent::filled(lengths, pattern);
-    let mut library_lent = lent.clone();
-    let result = engine::plan(table, held, unread, &mut lent);
-    let expected = match &result {
-        Ok(planned) => {
-            [0, planned.entries as u64, planned.tree_bytes as u64, planned.way_jobs as u64, planned.way_minutes as u64]
-        }
-        Err(refusal) => refused(refusal),
-    };
-    let copy = table.to_vec();
-    let case = || format!("plan {} held {held:x} unread {unread:x} lent {lengths:?}", hex(table));
-    reached("plan", expected[0]);
-    same(ffi::plan(&copy, held, unread, &mut library_lent), expected, case);
-    same(copy.as_slice(), table, case);
-    let differences = [
-        first_difference("conditions", &library_lent.conditions, &lent.conditions),
-        first_difference("jobs", &library_lent.jobs, &lent.jobs),
-        first_difference("parents", &library_lent.parents, &lent.parents),
-        first_difference("depths", &library_lent.depths, &lent.depths),
-        first_difference("tree", &library_lent.tree, &lent.tree),
-    ];
-    if let Some(difference) = differences.into_iter().flatten().next() {
-        panic!("{}\n  {difference}", case());
-    }
-    (result, lent)
+    into_lent(
+        "plan",
+        table,
+        lengths,
+        pattern,
+        || format!("held {held:x} unread {unread:x}"),
+        |table, lent| engine::plan(table, held, unread, lent),
+        |p| [0, p.entries as u64, p.tree_bytes as u64, p.way_jobs as u64, p.way_minutes as u64],
+        |table, lent| ffi::plan(table, held, unread, lent),
+    )
+}
+
+/// The plan for the whole shift tells its entries and the bytes of its tree.
+pub fn plan_shift(table: &[u8], lengths: [usize; 5], pattern: u64) -> (Result<(usize, usize), Refusal>, Lent) {
+    into_lent(
+        "plan_shift",
+        table,
+        lengths,
+        pattern,
+        String::new,
+        engine::plan_shift,
+        |(entries, tree_bytes)| [0, *entries as u64, *tree_bytes as u64],
+        ffi::plan_shift,
+    )
 }
 
 pub fn tick_words(result: &Result<Ticked, Refusal>) -> [u64; 3] {

@@ -4,7 +4,9 @@ use bay_tests::engine::*;
 use bay_tests::random::Random;
 use bay_tests::trailer;
 
+use super::brute::{check_no_dead_lines, check_runs, distances, run};
 use super::checks;
+use super::lent::{self, full, list_of, lists, tree_bytes};
 use super::make;
 use super::Group;
 
@@ -21,25 +23,6 @@ pub fn groups() -> Vec<Group> {
         Group { name: "runs_long", cases: 12, run: long_runs },
         Group { name: "no_way_means_none", cases: 1_500, run: no_way },
     ]
-}
-
-fn full() -> [usize; 5] {
-    [MOST_ENTRIES, MOST_ENTRIES, MOST_ENTRIES, MOST_ENTRIES, MOST_TREE_BYTES]
-}
-
-fn lists(capacity: usize, tree: usize) -> [usize; 5] {
-    [capacity, capacity, capacity, capacity, tree]
-}
-
-fn list_of(lent: &Lent, entries: usize) -> Vec<Entry> {
-    (0..entries)
-        .map(|i| Entry {
-            condition: lent.conditions[i],
-            job: lent.jobs[i],
-            parent: lent.parents[i],
-            depth: lent.depths[i],
-        })
-        .collect()
 }
 
 /// The cases that the paper prints, with its numbers.
@@ -92,11 +75,7 @@ fn small(random: &mut Random, index: u64) {
     let bytes = make::bytes_of(&table);
     let start = random.state(table.facts);
     let most = *random.pick(&[3, 10, 40]);
-    let mut lengths = [0; 5];
-    for length in &mut lengths {
-        *length = random.below(most + 1);
-    }
-    lengths[4] = random.below(14 * most);
+    let lengths = lent::any(random, most);
     let _ = checks::plan(&bytes, start, 0, lengths, random.next());
     let spare = random.below(9);
     let _ = checks::plan(&bytes, start, 0, lists(120 + spare, 2_000), random.next());
@@ -108,27 +87,19 @@ fn each_capacity(random: &mut Random, index: u64) {
     let table = if index % 2 == 0 { make::busy_table(random, facts) } else { make::table(random, 8, 9) };
     let bytes = make::bytes_of(&table);
     let start = random.state(table.facts);
-    let (list, ending) = expand(&table, start, MOST_ENTRIES);
+    let (list, ending) = expand(&table, Some(start), MOST_ENTRIES);
     let n = list.len();
-    let need = 14 * n - 1;
-    for capacity in n.saturating_sub(3)..=n + 2 {
-        for shortest in 0..4 {
-            let mut lengths = lists(0, need + random.below(3));
-            for length in &mut lengths[..4] {
-                *length = capacity + random.below(4);
-            }
-            lengths[shortest] = capacity;
-            let (result, _) = checks::plan(&bytes, start, 0, lengths, random.next());
-            if let (Err(refusal), Ending::Covered) = (result, ending) {
-                assert_eq!((refusal.number, refusal.place), (10, capacity));
-                assert!(capacity < n);
-            }
+    lent::around(random, n, |random, capacity, lengths| {
+        let (result, _) = checks::plan(&bytes, start, 0, lengths, random.next());
+        if let (Err(refusal), Ending::Covered) = (result, ending) {
+            assert_eq!((refusal.number, refusal.place), (10, capacity));
+            assert!(capacity < n);
         }
-    }
-    for tree in [0, 1, need.saturating_sub(14), need - 1, need, need + 1, need + 40] {
+    });
+    for tree in lent::trees_around(n) {
         let (result, _) = checks::plan(&bytes, start, 0, lists(n + random.below(3), tree), random.next());
         if ending == Ending::Covered {
-            assert_eq!(result.is_ok(), tree >= need);
+            assert_eq!(result.is_ok(), tree >= tree_bytes(n));
             assert!(result.is_ok() || result.unwrap_err() == Refusal { number: 12, place: n });
         }
     }
@@ -153,7 +124,7 @@ fn long(random: &mut Random, index: u64) {
     let bytes = make::bytes_of(&table);
     let (longer, longer_start) = make::long_table(13, 0);
     let longer_bytes = make::bytes_of(&longer);
-    let need = 14 * MOST_ENTRIES - 1;
+    let need = tree_bytes(MOST_ENTRIES);
     let number = |result: Result<Planned, Refusal>| result.map_err(|refusal| (refusal.number, refusal.place));
     match index {
         0 => {
@@ -200,51 +171,6 @@ fn refused(random: &mut Random, _: u64) {
     let _ = checks::plan(&bytes, held, unread, lengths, random.next());
 }
 
-/// For every state, the fewest jobs that lead to the goal, by brute force over all states.
-fn distances(table: &Table) -> Vec<Option<usize>> {
-    let states = 1usize << table.facts;
-    let mut distance: Vec<Option<usize>> =
-        (0..states).map(|state| is_part(table.goal, state as u64).then_some(0)).collect();
-    for length in 1.. {
-        let mut grown = false;
-        for state in 0..states {
-            let reaches = |job: &Job| {
-                job.is_applicable(state as u64)
-                    && distance[job.finish(state as u64) as usize].is_some_and(|rest| rest + 1 == length)
-            };
-            if distance[state].is_none() && table.jobs.iter().any(reaches) {
-                distance[state] = Some(length);
-                grown = true;
-            }
-        }
-        if !grown {
-            break;
-        }
-    }
-    distance
-}
-
-/// The jobs of a run from a state, and whether it ends with Success; a job that is not applicable ends it too.
-fn run(bytes: &[u8], table: &Table, tree: &[u8], state: u64) -> (Vec<u8>, bool) {
-    let mut jobs = Vec::new();
-    let mut state = state;
-    loop {
-        match checks::tick(bytes, tree, state, 0).map(|ticked| ticked.status) {
-            Ok(Status::Success) => return (jobs, true),
-            Ok(Status::Running(number)) => {
-                let job = &table.jobs[usize::from(number)];
-                if !job.is_applicable(state) {
-                    return (jobs, false);
-                }
-                jobs.push(number);
-                state = job.finish(state);
-            }
-            _ => return (jobs, false),
-        }
-        assert!(jobs.len() <= MOST_ENTRIES, "the run does not end");
-    }
-}
-
 /// A way of one job, once for each time that a table can list.
 fn every_time(random: &mut Random, index: u64) {
     let (table, start) = make::counter_table(1, index as u16);
@@ -255,14 +181,7 @@ fn every_time(random: &mut Random, index: u64) {
 
 /// Demand 3: from every state that a plan covers, the run ends with Success after the fewest jobs.
 fn fewest_jobs(random: &mut Random, index: u64) {
-    let facts = random.between(3, 5) as u32;
-    let table = match index {
-        0 => read_table(&trailer::table()).expect("sound"),
-        1 | 2 => make::counter_table(index as usize + 1, 65_535).0,
-        _ if index % 8 == 4 => make::busy_table(random, 6),
-        _ if index % 2 == 0 => make::busy_table(random, facts),
-        _ => make::table(random, 5, 8),
-    };
+    let table = make::small_table(random, index);
     let bytes = make::bytes_of(&table);
     let distance = distances(&table);
     let states = 1u64 << table.facts;
@@ -278,22 +197,11 @@ fn fewest_jobs(random: &mut Random, index: u64) {
         };
         let list = list_of(&lent, planned.entries);
         let tree = &lent.tree[..planned.tree_bytes];
-        for state in 0..states {
-            let first_met = list.iter().find(|entry| is_part(entry.condition, state));
-            let (jobs, success) = run(&bytes, &table, tree, state);
-            match first_met {
-                Some(entry) => {
-                    assert!(success, "the run from {state:x} does not reach the goal");
-                    assert_eq!(Some(jobs.len()), distance[state as usize], "jobs of the run from {state:x}");
-                    assert_eq!(jobs.len(), usize::from(entry.depth));
-                }
-                None => assert_eq!((jobs.len(), success), (0, false)),
-            }
-            if state == start {
-                assert_eq!(planned.way_jobs, jobs.len());
-                assert_eq!(planned.way_minutes, minutes(seconds_of(&table, &jobs)));
-            }
-        }
+        check_runs(&bytes, &table, &list, tree, &distance);
+        check_no_dead_lines(&table, &list);
+        let (jobs, _) = run(&bytes, &table, tree, start);
+        assert_eq!(planned.way_jobs, jobs.len());
+        assert_eq!(planned.way_minutes, minutes(seconds_of(&table, &jobs)));
     }
 }
 

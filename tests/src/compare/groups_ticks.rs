@@ -29,7 +29,7 @@ pub fn groups() -> Vec<Group> {
 
 /// The tree that a table's plan writes from some start, or its whole list's tree where there is no way.
 fn built_tree(table: &Table, start: u64) -> Vec<u8> {
-    tree_bytes(&expand(table, start, 200).0)
+    tree_bytes(&expand(table, Some(start), 200).0)
 }
 
 /// Every sound reading of a built tree.
@@ -302,7 +302,7 @@ fn small_stack(_: &mut Random, _: u64) {
         deep(FALLBACK, 400),
         deep(SEQUENCE, 400),
     ];
-    let long_tree = tree_bytes(&expand(&long, start, MOST_ENTRIES).0);
+    let long_tree = tree_bytes(&expand(&long, Some(start), MOST_ENTRIES).0);
     let expected: Vec<[u64; 3]> =
         trees.iter().map(|tree| checks::tick_words(&tick(&trailer_bytes, tree, 1, 0))).collect();
     let expected_long = checks::tick_words(&tick(&long_bytes, &long_tree, start, 0));

@@ -2,6 +2,7 @@
 
 use bay_tests::engine::*;
 use bay_tests::random::Random;
+use bay_tests::trailer;
 
 pub const TABLE_COMMANDS: [u8; 4] = [FACTS, JOB, GOAL, END_OF_TABLE];
 pub const TREE_COMMANDS: [u8; 5] = [FALLBACK, SEQUENCE, CONDITION, JOB_LEAF, END_OF_TREE];
@@ -259,5 +260,17 @@ pub fn fillings(held: u64, unread: u64) -> Vec<u64> {
             return all;
         }
         part = (part - 1) & unread;
+    }
+}
+
+/// A table whose states can all be tried: the trailer's, small counters, and random ones.
+pub fn small_table(random: &mut Random, index: u64) -> Table {
+    let facts = random.between(3, 5) as u32;
+    match index {
+        0 => read_table(&trailer::table()).expect("sound"),
+        1 | 2 => counter_table(index as usize + 1, 65_535).0,
+        _ if index % 8 == 4 => busy_table(random, 6),
+        _ if index % 2 == 0 => busy_table(random, facts),
+        _ => table(random, 5, 8),
     }
 }
