@@ -28,7 +28,7 @@ use Rattle.minutes.specs.Minutes.{nearest}
 use Rattle.expander.specs.declared.Expanded.{Expanded}
 use Rattle.expander.specs.declared.Expanded.the-variants as X
 use Rattle.expander.specs.Expands.{Columns, over, room, held, outcomeOf, planIn, Expands}
-use Rattle.expander.specs.ExpandsLaws.{capacity-conditions, capacity-actions, capacity-parents, capacity-depths, held-length, list-length, entry-held, stored-fits, stored-small, stored-action, stored-parent, stored, exhausted-some, covered-some}
+use Rattle.expander.specs.ExpandsLaws.{capacity-conditions, capacity-actions, capacity-parents, capacity-depths, held-length, list-length, entry-held, stored-fits, stored-small, stored-action, stored-parent, stored}
 use Rattle.flat.specs.TreeBytes.{treeBytes}
 use Rattle.flat.specs.TreeBytesLaws.{lines, tree-length}
 use Rattle.flat.specs.FlatLaws.{tree-columns}
@@ -39,18 +39,18 @@ use Rattle.planner.specs.Way.{linked, Stored}
 
 -- ---- the tree
 
--- a lent tree that is too short stays as it is, and in one that is not the tree of the list stands at the front
-module _ (conditions actions : List ℕ) (n : ℕ) (some : 1 ≤ n) where
+module _ (conditions actions : List ℕ) (n : ℕ) where
   abbrev drawn : List (Entry ℕ)
   drawn = lines conditions actions n
 
   drawn-size : length drawn ≡ n
   drawn-size = length-prefix (entryAt conditions actions [] []) n
 
-  drawn-tree : length (treeBytes drawn) ≡ 14 * n - 1
-  drawn-tree = omega (arith, tree-length drawn (omega (arith, drawn-size)), drawn-size)
+  -- a lent tree that is too short stays as it is, and in one that is not the tree of the list stands at the front
+  module _ (some : 1 ≤ n) (lent tree : List ℕ) (told : Checked Size) where
+    drawn-tree : length (treeBytes drawn) ≡ 14 * n - 1
+    drawn-tree = omega (arith, tree-length drawn (omega (arith, drawn-size)), drawn-size)
 
-  module _ (lent tree : List ℕ) (told : Checked Size) where
     -- 12: the lent tree is too short, and stays as it is
     pub lay-short : length lent < 14 * n - 1 → lent ≡ tree → told ≡ refused 12 n → LaysTree (withTree (length lent) (sizeOf drawn) drawn) lent tree told
     lay-short h same a =
@@ -105,10 +105,10 @@ module _ (t : Table) (conditions actions parents depths : List ℕ) (n : ℕ) (S
   lay-way lent tree told seconds s =
       let jobs : getD depths (n - 1) 0 ≡ length (wayOf t list) = sym (S .last-depth) ∙ ap length (sym way-is) in
       let time : seconds ≡ secondsOf (t .jobs) (wayOf t list) = s ∙ ap (secondsOf (t .jobs)) (sym way-is) in
-      retold (length lent) (lines conditions actions n) list (drawn-size conditions actions n (S .some) ∙ sym size) (sym (tree-columns conditions actions parents depths n))
+      retold (length lent) (lines conditions actions n) list (drawn-size conditions actions n ∙ sym size) (sym (tree-columns conditions actions parents depths n))
       (sizeOf (lines conditions actions n)) (summaryOf t list)
       (λ x. record { entries = x .entries; bytes = x .bytes; jobs = getD depths (n - 1) 0; minutes = nearest seconds })
-      (rw (jobs, time, drawn-size conditions actions n (S .some), size)) lent tree told
+      (rw (jobs, time, drawn-size conditions actions n, size)) lent tree told
 
 -- ---- the list, and what it says of the columns
 
@@ -175,10 +175,10 @@ module _ (t : Table) (before after : Columns) (x : Expanded) (E : Expands (table
   shift-full n e a = shift-lays lent (rw e (stops 10 after n lent told a))
 
   module _ (n : ℕ) (tree : List ℕ) (L : LaysTree (withTree (length lent) (sizeOf (lines (after .conditions) (after .actions) n)) (lines (after .conditions) (after .actions) n)) lent tree told) where
-    shift-tree : 1 ≤ n → LaysTree (withTree (length lent) (sizeOf (held after n)) (held after n)) lent tree told
-    shift-tree some =
+    shift-tree : LaysTree (withTree (length lent) (sizeOf (held after n)) (held after n)) lent tree told
+    shift-tree =
         let drawn = lines (after .conditions) (after .actions) n in
-        let sizes : length drawn ≡ length (held after n) = drawn-size (after .conditions) (after .actions) n some ∙ sym (held-length after n) in
+        let sizes : length drawn ≡ length (held after n) = drawn-size (after .conditions) (after .actions) n ∙ sym (held-length after n) in
         subst (LaysTree (withTree (length lent) (sizeOf (held after n)) (held after n)) lent tree) (as-told told)
         (retold (length lent) drawn (held after n) sizes (sym (tree-columns (after .conditions) (after .actions) (after .parents) (after .depths) n))
         (sizeOf drawn) (sizeOf (held after n)) (λ x. x) (rw sizes) lent tree told L)
@@ -188,10 +188,10 @@ module _ (t : Table) (before after : Columns) (x : Expanded) (E : Expands (table
         as-told (refused n p) = refl
 
     pub shift-exhausted : x ≡ X.Exhausted n → Lays (shiftFor t (room before) (length lent)) before after lent tree told
-    shift-exhausted e = shift-lays tree (rw e (shift-tree (exhausted-some (rw e at E))))
+    shift-exhausted e = shift-lays tree (rw e shift-tree)
 
     pub shift-covered : x ≡ X.Covered n → Lays (shiftFor t (room before) (length lent)) before after lent tree told
-    shift-covered e = shift-lays tree (rw e (shift-tree (covered-some (rw e at E))))
+    shift-covered e = shift-lays tree (rw e shift-tree)
 
 -- ---- what stands in the columns
 

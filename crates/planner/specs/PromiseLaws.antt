@@ -227,9 +227,23 @@ module _ (t : Table) (start : Reading) (capacity room : ℕ) where
   checked P true false L a b p = absurd (b p)
   checked P false reads L a b p = absurd (a p)
 
-  from-built : (p : Summary) → laidFrom t start capacity room .answer ≡ accepted p → laidFrom t start capacity room ≡ laidFor t (start .held) capacity room
-  unfolding laidFrom
-  from-built p = checked (λ L. L .answer ≡ accepted p) (sound (t .facts) start) (eqb (start .unread) 0) (laidFor t (start .held) capacity room) not-both not-both
+  -- an accepted answer: its list, which a condition that is part of the start ended, and its summary
+  record Begun (p : Summary) : Type 0 where
+    list : List (Entry ℕ)
+    ended : startPlan (tableActions t) (t .goal) capacity (start .held) ≡ covered list
+    laid-is : laidFrom t start capacity room ≡ built (summaryOf t list) list
+    summary : p ≡ summaryOf t list
+    last : ℕ
+    size : length list ≡ suc last
+    first : FirstIn (tableDomain t) list (start .held) last
+
+  begun : (p : Summary) → laidFrom t start capacity room .answer ≡ accepted p → Begun p
+  unfolding laidFrom laidFor
+  begun p a =
+      let f = checked (λ L. L .answer ≡ accepted p) (sound (t .facts) start) (eqb (start .unread) 0) (laidFor t (start .held) capacity room) not-both not-both a in
+      let w = built-told t room (startPlan (tableActions t) (t .goal) capacity (start .held)) p (ap (λ (L : Laid Summary). L .answer) (sym f) ∙ a) in
+      let n = fact-start-first (tableActions t) (t .goal) capacity (start .held) (w .0) (w .1) in
+      record { list = w .0; ended = w .1; laid-is = f ∙ w .2; summary = w .3; last = n .0; size = n .1; first = n .2 }
 
   from-no-way : (n : ℕ) → laidFrom t start capacity room .answer ≡ refused 11 n → laidFrom t start capacity room ≡ laidFor t (start .held) capacity room
   unfolding laidFrom
@@ -260,20 +274,14 @@ every-plan table b start capacity room few = record { works = all-work; start-co
     all-work : (t : Table) → readTable table ≡ accepted t → (p : Summary) → laid table start capacity room .answer ≡ accepted p
         → Works t table (laid table start capacity room .list) (laid table start capacity room .tree)
     all-work t e p a =
-        let here : laidFrom t start capacity room .answer ≡ accepted p = rw e at a in
-        let f = from-built t start capacity room p here in
-        let w = built-told t room (startPlan (tableActions t) (t .goal) capacity (start .held)) p (ap (λ (L : Laid Summary). L .answer) (sym f) ∙ here) in
-        let first = fact-start-first (tableActions t) (t .goal) capacity (start .held) (w .0) (w .1) in
-        rw (e, f, w .2) (list-works table b t e capacity (λ c. subset c (start .held)) few (w .0) (omega (arith, first .1)) (ap entries (w .1)))
+        let w = begun t start capacity room p (rw e at a) in
+        rw (e, w .laid-is) (list-works table b t e capacity (λ c. subset c (start .held)) few (w .list) (omega (arith, w .size)) (ap entries (w .ended)))
 
     begins : (t : Table) → readTable table ≡ accepted t → (p : Summary) → laid table start capacity room .answer ≡ accepted p
         → (i : ℕ) × (p .entries ≡ suc i) × FirstIn (tableDomain t) (laid table start capacity room .list) (start .held) i
     begins t e p a =
-        let here : laidFrom t start capacity room .answer ≡ accepted p = rw e at a in
-        let f = from-built t start capacity room p here in
-        let w = built-told t room (startPlan (tableActions t) (t .goal) capacity (start .held)) p (ap (λ (L : Laid Summary). L .answer) (sym f) ∙ here) in
-        let first = fact-start-first (tableActions t) (t .goal) capacity (start .held) (w .0) (w .1) in
-        rw (e, f, w .2) (first .0, ap (λ (x : Summary). x .entries) (w .3) ∙ first .1, first .2)
+        let w = begun t start capacity room p (rw e at a) in
+        rw (e, w .laid-is) (w .last, ap (λ (x : Summary). x .entries) (w .summary) ∙ w .size, w .first)
 
     none : (t : Table) → readTable table ≡ accepted t → (n : ℕ) → laid table start capacity room .answer ≡ refused 11 n
         → (w : List ℕ) → Reaches (tableDomain t) (start .held) w → ⊥
