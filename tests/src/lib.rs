@@ -5,4 +5,6 @@ pub mod random;
 pub mod trailer;
 
 #[cfg(test)]
+mod edit_tests;
+#[cfg(test)]
 mod engine_tests;
