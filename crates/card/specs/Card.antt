@@ -14,7 +14,7 @@ use Rattle.refusal.specs.Checked.{Checked, accepted, refused, refusedBy, andThe
 use Rattle.reading.specs.declared.Reading.{Reading}
 use Rattle.reading.specs.Reading.{sound}
 use Rattle.table.specs.declared.Job.{Job}
-use Rattle.table.specs.Table.{Table}
+use Rattle.table.specs.Table.{Table, maxSeconds}
 use Rattle.table.specs.Read.{readTable, namedJob}
 use Rattle.minutes.specs.Minutes.{minutesOf}
 use Rattle.card.specs.declared.Card.{Card}
@@ -63,20 +63,21 @@ withReport j taken c =
 abbrev pub maxReports : ℕ
 maxReports = 65535
 
--- what one report adds to each sum at most: reported and listed seconds have 16 bits
+-- what one report adds to each sum at most: reported seconds have 16 bits, and a listed job is not longer than a table allows
 abbrev pub maxTaken : ℕ
 maxTaken = 65535
 
 abbrev pub maxListed : ℕ
-maxListed = 65535
+maxListed = maxSeconds
 
--- 18: "The card has 65,535 reports, or one of its sums exceeds 65,535 × its count."
+-- 18: "The card has 65,535 reports, or one of its sums exceeds 65,535 × its count."; document 02, W3: "Number 18's limit for the planned sum
+-- becomes 5,400 × count, and for taken seconds it remains as it was."
 unfoldable pub exhausted : Card → Bool
 exhausted c = eqb (c .reports) maxReports || (ltb (maxTaken * c .reports) (c .taken) || ltb (maxListed * c .reports) (c .planned))
 
 -- ---- the calls: the card that each leaves, or its stop
 
--- 1 to 7 of the table, then 8: "A reading, or the card's masks, share a fact or have a bit at or above F."
+-- the table's own stops, then 8: "A reading, or the card's masks, share a fact or have a bit at or above F."
 unfoldable pub tableFor : List ℕ → Reading → Checked Table
 tableFor table r = andThen (readTable table) λ t. if sound (t .facts) r then accepted t else refused 8 0
 
@@ -94,7 +95,7 @@ unfoldable pub judged : Job → ℕ → Card → Checked Card
 judged j taken c =
     if applicable j (masksOf c) then (if exhausted c then refused 18 0 else accepted (withReport j taken c)) else refused 17 0
 
--- "A report has a job and its taken seconds": 1 to 8 with the card's own masks, 16 with the job's number, 17, 18
+-- "A report has a job and its taken seconds": the table's own stops, 8 with the card's own masks, 16 with the job's number, 17, 18
 unfoldable pub reported : List ℕ → JobReport → Card → Checked Card
 reported table x c = andThen (tableFor table (masksOf c)) λ t. andThen (namedJob t (x .job)) λ j. judged j (x .taken) c
 

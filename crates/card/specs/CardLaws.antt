@@ -104,6 +104,16 @@ module _ (c : Card) where
   unfolding exhausted
   not-exhausted n b = rw (ne-eqb (c .reports) maxReports n, le-ltb _ _ (b .taken-bounded), le-ltb _ _ (b .planned-bounded))
 
+  -- a planned sum above its limit is enough, whatever the count and the taken sum are
+  pub planned-over : maxListed * c .reports < c .planned → exhausted c ≡ true
+  unfolding exhausted
+  planned-over h = rw (lt-ltb (maxListed * c .reports) (c .planned) h) (either (eqb (c .reports) maxReports) (ltb (maxTaken * c .reports) (c .taken)))
+    where
+      either : (a b : Bool) → (a || (b || true)) ≡ true
+      either true b = refl
+      either false true = refl
+      either false false = refl
+
 -- ---- a report
 
 module _ (j : Job) (taken : ℕ) (c : Card) where

@@ -1,9 +1,9 @@
 -- What reports make of a card: its masks stay sound and its sums within 18's bound, and on a fully read card a report is a finished job.
 -- Assumes nothing.
-use Prim.Native.Nat.{ℕ, zero, suc, _-_, _^_, _≤_, _<_, max}
+use Prim.Native.Nat.{ℕ, zero, suc, _-_, _*_, _^_, _≤_, _<_, max}
 use native.Mathlib.Omega.{arith}
 use mathlib.Core.Path.{_≡_, refl, sym, ap, _∙_}
-use mathlib.Core.Bool.{Bool, true, false, not, _||_}
+use mathlib.Core.Bool.{Bool, true, false, not, _||_, true≢false}
 use mathlib.Core.List.{List}
 use borrow.Author.Tests.{ltb-true}
 use lib.Dec.{T, T-not, ltb}
@@ -23,11 +23,11 @@ use Rattle.table.specs.declared.Job.{Job}
 use Rattle.table.specs.Table.{Table, noJob}
 use Rattle.table.specs.Read.{readTable, namedJob}
 use Rattle.table.specs.Sound.{SoundJob}
-use Rattle.table.specs.RoundTrip.{read-storable, read-sound}
+use Rattle.table.specs.RoundTrip.{read-sound}
 use Rattle.card.specs.declared.Card.{Card}
 use Rattle.card.specs.declared.JobReport.{JobReport}
 use Rattle.card.specs.Card.{masksOf, newCard, withMasks, applicable, finished, withReport, maxReports, maxTaken, maxListed, exhausted, tableFor, outsideRead, judged, reported, answer}
-use Rattle.card.specs.CardLaws.{for-told, for-jobs, judged-missing, report-job, Bounded, room, not-exhausted}
+use Rattle.card.specs.CardLaws.{for-told, for-jobs, judged-missing, judged-exhausted, report-job, Bounded, room, not-exhausted, planned-over}
 
 -- ---- the effect of a report on both masks
 
@@ -185,17 +185,17 @@ module _ (s : List ℕ) (x : JobReport) (c d : Card) (a : Accepted s x c d) wher
   report-finishes u = let e : masksOf c ≡ state (c .held) = rw u in masks-then ∙ ap (finished (a .job)) e ∙ finished-state (a .job) (c .held)
 
   module _ (b : AreBytes s) where
+    ok : SoundJob (a .table .facts) (a .job)
+    ok = rw (a .is-job) (read-sound s b (a .table) (a .is-table) .sound-jobs (x .job) (a .has-job))
+
     -- The card's masks stay sound: no report leads to 8.
     pub report-sound : T (sound (a .table .facts) (masksOf d))
-    report-sound =
-        let ok : SoundJob (a .table .facts) (a .job) = rw (a .is-job) (read-sound s b (a .table) (a .is-table) .sound-jobs (x .job) (a .has-job)) in
-        rw masks-then (finished-sound (a .job) (masksOf c) (a .table .facts) ok (a .masks-sound))
+    report-sound = rw masks-then (finished-sound (a .job) (masksOf c) (a .table .facts) ok (a .masks-sound))
 
     -- Its sums stay within 18's bound: 18 then arises only once 65,535 reports were made.
     pub report-bounded : x .taken < 2 ^ 16 → Bounded d
     report-bounded h =
-        let k : a .job .seconds < 2 ^ 16 = rw (a .is-job) (read-storable s b (a .table) (a .is-table) .jobs-fit (x .job) .seconds-fit) in
-        rw (a .is-card) (with-report-bounded (a .job) (x .taken) c (omega arith) (omega arith) (room c (a .has-room) .1))
+        rw (a .is-card) (with-report-bounded (a .job) (x .taken) c (omega arith) (ok .in-time) (room c (a .has-room) .1))
 
 -- ---- a report that was refused
 
@@ -233,6 +233,18 @@ module _ (s : List ℕ) (x : JobReport) (c : Card) (t : Table) (e : accepted t �
           (λ j. if applicable j (masksOf c) then accepted (withReport j (x .taken) c) else refused 17 0) ≡ refused 18 0 → ⊥
       by-job true q = by-needs (applicable (getD (t .jobs) (x .job) noJob) (masksOf c)) _ q
       by-job false q = let z : _≡_ {A = ℕ} 16 18 = cc in omega arith
+
+-- ---- a card filled under an older table, before document 02's W3: its planned sum may be above the limit
+
+module _ (c : Card) (over : maxListed * c .reports < c .planned) where
+  -- No report is accepted any more, whatever the table.
+  pub older-refused : (s : List ℕ) (x : JobReport) (d : Card) → reported s x c ≡ accepted d → ⊥
+  older-refused s x d e = true≢false (sym (planned-over c over) ∙ report-told s x c d e .has-room)
+
+  -- Its next report, of a job whose needs are held, is 18.
+  pub older-exhausted : (s : List ℕ) (x : JobReport) (t : Table) → accepted t ≡ tableFor s (masksOf c) → x .job < length (t .jobs)
+      → applicable (getD (t .jobs) (x .job) noJob) (masksOf c) ≡ true → reported s x c ≡ refused 18 0
+  older-exhausted s x t e h n = sym (judged-exhausted _ _ c n (planned-over c over) ∙ rw (for-jobs s (masksOf c) t e) at (report-job s x c t e h))
 
 -- ---- an outside reading
 

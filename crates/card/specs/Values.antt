@@ -34,14 +34,15 @@ pub then-uncoupled : judged uncouple 200 (card 0x0a 0 1 630 600) ≡ accepted (c
 unfolding judged applicable exhausted withReport finished applied subset union difference
 then-uncoupled = refl
 
--- 17 comes before 18; 18 by the count, and by each sum at its bound and one past it
-pub stops : map (judged measure 1) (card 0x00 0x02 65535 0 0 ∷ card 0x02 0 65535 0 0 ∷ card 0x02 0 1 65536 0 ∷ card 0x02 0 1 0 65536 ∷ card 0x02 0 0 1 0 ∷ [])
+-- 17 comes before 18; 18 by the count, and by each sum one past its bound: a planned sum above it stems from a table of longer jobs, read before
+-- document 02's W3
+pub stops : map (judged measure 1) (card 0x00 0x02 65535 0 0 ∷ card 0x02 0 65535 0 0 ∷ card 0x02 0 1 65536 0 ∷ card 0x02 0 1 0 5401 ∷ card 0x02 0 0 1 0 ∷ [])
     ≡ refused 17 0 ∷ refused 18 0 ∷ refused 18 0 ∷ refused 18 0 ∷ refused 18 0 ∷ []
 unfolding judged applicable exhausted withReport finished applied subset union difference
 stops = refl
 
-pub at-the-bounds : map (judged seal 65535) (card 0x0c 0 1 65535 65535 ∷ card 0x0c 0 65534 4294770690 4294770690 ∷ [])
-    ≡ accepted (card 0x1c 0 2 131070 65685) ∷ accepted (card 0x1c 0 65535 4294836225 4294770840) ∷ []
+pub at-the-bounds : map (judged seal 65535) (card 0x0c 0 1 65535 5400 ∷ card 0x0c 0 65534 4294770690 353883600 ∷ [])
+    ≡ accepted (card 0x1c 0 2 131070 5550) ∷ accepted (card 0x1c 0 65535 4294836225 353883750) ∷ []
 unfolding judged applicable exhausted withReport finished applied subset union difference
 at-the-bounds = refl
 

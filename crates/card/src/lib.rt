@@ -19,8 +19,8 @@ pub const MAX_REPORTS: u16 = 65535;
 // The most that one report adds to the taken seconds.
 pub const MAX_TAKEN: u32 = 65535;
 
-// The most that one report adds to the planned seconds.
-pub const MAX_LISTED: u32 = 65535;
+// The most that one report adds to the planned seconds: the longest job that a table may list.
+pub const MAX_LISTED: u32 = table::MAX_SECONDS as u32;
 
 pub struct Card {
     pub held: u64,

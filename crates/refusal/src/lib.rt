@@ -1,5 +1,5 @@
-// Why a call is refused, and where: document 01, "Stops, in checking order". Every entry point of the planner refuses with
-// one of these reasons; its number is document 01's, its place is what that section fixes.
+// Why a call is refused, and where: document 01, "Stops, in checking order", and document 02's stops as they land. Every entry
+// point of the planner refuses with one of these reasons; its number is the papers', its place is what they fix for it.
 ghost use mathlib.Core.Path.{_≡_};
 ghost use Rattle.refusal.specs.Numbers.{numberOf};
 
@@ -38,8 +38,10 @@ pub enum Reason {
     NoSuchJob,
     // A need of the reported job is unread or absent.
     NeedNotHeld,
-    // The card has 65,535 reports, or one of its sums exceeds 65,535 times its count.
+    // The card has 65,535 reports, or a sum above its limit for that count.
     CardExhausted,
+    // A job is listed with more than 5,400 seconds.
+    JobTooLong,
 }
 
 pub struct Refusal {
@@ -47,7 +49,7 @@ pub struct Refusal {
     pub place: usize,
 }
 
-// Document 01's number of a reason.
+// The papers' number of a reason.
 pub fn number(reason: Reason) -> u8
     ensures { λ r. ⌜ r ≡ numberOf reason ⌝ }
 {
@@ -70,5 +72,6 @@ pub fn number(reason: Reason) -> u8
         Reason::NoSuchJob => 16,
         Reason::NeedNotHeld => 17,
         Reason::CardExhausted => 18,
+        Reason::JobTooLong => 19,
     }
 }

@@ -1,4 +1,5 @@
--- The table reader: from bytes to the table, or to the number and place of the first stop (document 01, "Stops, in checking order", 1 to 7).
+-- The table reader: from bytes to the table, or to the number and place of the first stop (document 01, "Stops, in checking order", 1 to 7;
+-- document 02, W3, 19).
 -- "In a table, earlier commands come first; within one, the command byte (1, 2), then its operands' presence (1), then 3 to 6."
 -- Assumes nothing.
 use Prim.Native.Nat.{ℕ, zero, suc, _+_}
@@ -21,7 +22,7 @@ use Rattle.table.specs.declared.Due.{Due}
 use Rattle.table.specs.declared.Judged.{Judged}
 use Rattle.table.specs.declared.TableRead.{TableRead}
 use Rattle.table.specs.declared.JobRead.{JobRead}
-use Rattle.table.specs.Table.{Table, maxFacts, maxJobs, noJob}
+use Rattle.table.specs.Table.{Table, maxFacts, maxJobs, maxSeconds, noJob}
 
 -- which command may stand there: FACTS first, then JOBs up to GOAL, then END
 abbrev pub allowed : Stage → ℕ → Bool
@@ -63,9 +64,15 @@ inRange facts j = within facts (j .needs) && (within facts (j .adds) && within f
 abbrev pub overlaps : Job → Bool
 overlaps j = intersects (j .adds) (j .deletes) || intersects (j .adds) (j .needs)
 
--- 5: "A table mask has a bit at or above F." 6: "A job's adds share a fact with its deletes or its needs."
+-- it is listed with no more seconds than a job may be
+abbrev pub inTime : Job → Bool
+inTime j = leb (j .seconds) maxSeconds
+
+-- 5: "A table mask has a bit at or above F." 6: "A job's adds share a fact with its deletes or its needs." 19: document 02, W3, "A longer job is
+-- refused as 19 with the command's offset, judged after 6."
 unfoldable pub judged : ℕ → ℕ → Job → Checked Job
-judged facts at j = if inRange facts j then (if overlaps j then refused 6 at else accepted j) else refused 5 at
+judged facts at j =
+    if inRange facts j then (if overlaps j then refused 6 at else (if inTime j then accepted j else refused 19 at)) else refused 5 at
 
 -- END: 7: "Bytes follow the table's END."; the place is "the first extra byte where bytes follow END"
 unfoldable pub readEnd : List ℕ → Table → ℕ → Checked Table

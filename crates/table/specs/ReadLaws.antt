@@ -5,7 +5,7 @@ use native.Mathlib.Omega.{arith}
 use mathlib.Core.Path.{_≡_, refl, sym, _∙_}
 use mathlib.Core.Bool.{Bool, true, false, _||_}
 use mathlib.Core.List.{List, [], _∷_, _++_}
-use borrow.Author.Tests.{eq-eqb, ne-eqb, eqb-true, lt-ltb, le-ltb}
+use borrow.Author.Tests.{eq-eqb, ne-eqb, eqb-true, lt-ltb, le-ltb, lt-leb, le-leb}
 use lib.Dec.{eqb}
 use lib.ListN.{length, getD}
 use Rattle.base.specs.Bools.{if_then_else_}
@@ -22,7 +22,7 @@ use Rattle.table.specs.declared.Job.{Job}
 use Rattle.table.specs.declared.Header.{Header}
 use Rattle.table.specs.declared.Stage.{Stage}
 use Rattle.table.specs.declared.Stage.the-variants.{First, Middle, Last}
-use Rattle.table.specs.Table.{Table, maxJobs, noJob}
+use Rattle.table.specs.Table.{Table, maxJobs, maxSeconds, noJob}
 use Rattle.table.specs.Read.{allowed, Step, dueIn, due, jobAt, factsInRange, inRange, overlaps, judged, readEnd, readGoal, readJobs, readTable, jobsOf, namedJob, headerOf, headed}
 
 -- ---- the command that is due
@@ -114,7 +114,7 @@ module _ (s : List ℕ) (at : ℕ) (c : Step) where
     unfolding widthOf
     job-inside b = sized s at c JOB 26 (due-told Middle s at c e .whole) (job-byte b) refl
 
--- ---- a job's masks
+-- ---- a job's masks and its seconds
 
 module _ (facts at : ℕ) (j : Job) where
   pub judged-out : inRange facts j ≡ false → refused 5 at ≡ judged facts at j
@@ -126,9 +126,14 @@ module _ (facts at : ℕ) (j : Job) where
     unfolding judged
     judged-overlap o = rw (e, o)
 
-    pub judged-sound : overlaps j ≡ false → accepted j ≡ judged facts at j
-    unfolding judged
-    judged-sound o = rw (e, o)
+    module _ (o : overlaps j ≡ false) where
+      pub judged-long : maxSeconds < j .seconds → refused 19 at ≡ judged facts at j
+      unfolding judged
+      judged-long l = rw (e, o, lt-leb (j .seconds) maxSeconds l)
+
+      pub judged-sound : j .seconds ≤ maxSeconds → accepted j ≡ judged facts at j
+      unfolding judged
+      judged-sound l = rw (e, o, le-leb (j .seconds) maxSeconds l)
 
 -- ---- END
 

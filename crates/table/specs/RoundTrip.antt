@@ -2,14 +2,15 @@
 -- Assumes nothing.
 use Prim.Native.Nat.{ℕ, zero, suc, _+_, _-_, _*_, _^_, _≤_, _<_}
 use native.Mathlib.Nat.{add-zero}
+use native.Mathlib.Decide.{decLe}
 use native.Mathlib.Omega.{arith}
 use mathlib.Core.Path.{_≡_, refl, sym, ap, _∙_, subst}
 use mathlib.Core.Bool.{Bool, true, false}
 use mathlib.Core.List.{List, [], _∷_, _++_, append-assoc, append-nil}
 use lib.Dec.{eqb}
-use lib.ListN.{length, getD, drop, length-append, length-drop, take-append-drop, drop-of-length-le}
+use lib.ListN.{length, getD, drop, length-append, length-drop, take-append-drop, drop-of-length-le, List·getD-eq-default}
 use lib.Seq.{drop-drop, drop-at, drop-cons, getD-drop}
-use borrow.Author.Tests.{eqb-true, eqb-false}
+use borrow.Author.Tests.{eqb-true, eqb-false, leb-true}
 use Rattle.base.specs.Bools.{if_then_else_}
 use Rattle.masks.specs.Sets.{within}
 use Rattle.refusal.specs.Checked.{Checked, accepted, refused, andThen}
@@ -22,8 +23,8 @@ use Rattle.commands.specs.NumberLaws.{AreBytes, from-to, to-length, read-drop, 
 use Rattle.table.specs.declared.Job.{Job}
 use Rattle.table.specs.declared.Stage.{Stage}
 use Rattle.table.specs.declared.Stage.the-variants.{First, Middle, Last}
-use Rattle.table.specs.Table.{Table, maxJobs, noJob, jobBytes, jobsBytes, goalBytes, tableBytes}
-use Rattle.table.specs.Read.{allowed, Step, due, jobAt, factsInRange, inRange, overlaps, judged, readEnd, readGoal, readJobs, readTable, jobsOf}
+use Rattle.table.specs.Table.{Table, maxJobs, maxSeconds, noJob, jobBytes, jobsBytes, goalBytes, tableBytes}
+use Rattle.table.specs.Read.{allowed, Step, due, jobAt, factsInRange, inRange, overlaps, inTime, judged, readEnd, readGoal, readJobs, readTable, jobsOf}
 use Rattle.table.specs.ReadLaws.{due-whole, due-told, facts-inside, goal-inside, job-inside, end-inside, job-byte, end-whole, judged-sound, jobs-goal, jobs-full, jobs-bad, jobs-more, table-facts, table-no-facts}
 use Rattle.table.specs.Sound.{SoundJob, Sound, StorableJob, Storable, judgedFrom, judgedTable}
 
@@ -147,7 +148,8 @@ unfolding judged
 judged-told facts at k j e =
     let r = accepted-if (inRange facts k) _ 5 at j e in
     let o = accepted-unless (overlaps k) _ 6 at j (r .1) in
-    (accepted-same (o .1), record { in-range = r .0; apart = o .0 })
+    let l = accepted-if (inTime k) _ 19 at j (o .1) in
+    (accepted-same (l .1), record { in-range = r .0; apart = o .0; in-time = leb-true _ _ (l .0) })
 
 pub record Judged (facts goal left : ℕ) (js ks : List Job) (t : Table) : Type 0 where
   pub is-table : record { facts = facts; jobs = js ++ ks; goal = goal } ≡ t
@@ -189,7 +191,7 @@ unfolding judgedFrom
 sound-from facts goal left js [] at l h g = rw (g, append-nil)
 sound-from facts goal zero js (k ∷ ks) at l h g = absurd (omega arith)
 sound-from facts goal (suc left) js (k ∷ ks) at l h g =
-    ap (λ r. andThen r λ j. judgedFrom facts goal left (js ++ (j ∷ [])) ks (at + 27)) (sym (judged-sound facts at k (h 0 (omega arith) .in-range) (h 0 (omega arith) .apart)))
+    ap (λ r. andThen r λ j. judgedFrom facts goal left (js ++ (j ∷ [])) ks (at + 27)) (sym (judged-sound facts at k (h 0 (omega arith) .in-range) (h 0 (omega arith) .apart) (h 0 (omega arith) .in-time)))
     ∙ sound-from facts goal left (js ++ (k ∷ [])) ks (at + 27) (omega arith) (λ i m. h (suc i) (omega arith)) g
     ∙ rw append-assoc
 
@@ -332,6 +334,18 @@ module _ (s : List ℕ) (b : AreBytes s) where
     -- What was read is sound.
     pub read-sound : Sound t
     read-sound = read-only t t read-storable (ap readTable written-back ∙ q) .1
+
+-- document 02, W3: "whoever sums the times may rely on it". A number that names no job has no seconds.
+pub listed-in-time : (s : List ℕ) → AreBytes s → (a : ℕ) → getD (jobsOf (readTable s)) a noJob .seconds ≤ maxSeconds
+listed-in-time s b a =
+    elim (decLe (suc a) (length (jobsOf (readTable s)))) [
+      | yes h ↦ named (readTable s) refl h
+      | no h ↦ rw (List·getD-eq-default (jobsOf (readTable s)) noJob {n = a} (omega arith)) (omega arith)
+    ]
+  where
+    named : (r : Checked Table) → readTable s ≡ r → a < length (jobsOf r) → getD (jobsOf r) a noJob .seconds ≤ maxSeconds
+    named (accepted t) e h = read-sound s b t e .sound-jobs a h .in-time
+    named (refused n p) e h = absurd (omega arith)
 
 -- ---- each job of the table, by its number
 

@@ -1,4 +1,4 @@
--- What the table reader's checks come to: a table is sound where no stop of document 01 arises in its bytes.
+-- What the table reader's checks come to: a table is sound where no stop of the papers arises in its bytes.
 -- Assumes nothing.
 use Prim.Native.Nat.{ℕ, zero, suc, _+_, _^_, _≤_, _<_}
 use mathlib.Core.Path.{_≡_}
@@ -9,12 +9,13 @@ use Rattle.base.specs.Bools.{if_then_else_}
 use Rattle.masks.specs.Sets.{within}
 use Rattle.refusal.specs.Checked.{Checked, accepted, refused, andThen}
 use Rattle.table.specs.declared.Job.{Job}
-use Rattle.table.specs.Table.{Table, maxJobs, noJob}
+use Rattle.table.specs.Table.{Table, maxJobs, maxSeconds, noJob}
 use Rattle.table.specs.Read.{factsInRange, inRange, overlaps, judged}
 
 pub record SoundJob (facts : ℕ) (j : Job) : Type 0 where
   pub in-range : inRange facts j ≡ true
   pub apart : overlaps j ≡ false
+  pub in-time : j .seconds ≤ maxSeconds
 
 pub record Sound (t : Table) : Type 0 where
   pub facts-in-range : factsInRange (t .facts) ≡ true

@@ -21,6 +21,10 @@ maxFacts = 64
 abbrev pub maxJobs : ℕ
 maxJobs = 128
 
+-- document 02, W3: "the longest listed job is 5,400 seconds. That becomes the limit of the seconds field"
+abbrev pub maxSeconds : ℕ
+maxSeconds = 5400
+
 -- JOB: "needs, adds, deletes (8 bytes each), seconds (2 bytes)"
 unfoldable pub jobBytes : Job → List ℕ
 jobBytes j = JOB ∷ toBytes 8 (j .needs) ++ (toBytes 8 (j .adds) ++ (toBytes 8 (j .deletes) ++ toBytes 2 (j .seconds)))

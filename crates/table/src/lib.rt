@@ -1,5 +1,5 @@
-// The job table, read from bytes, with every check that document 01 makes of a table (document 01, "Commands" and "Stops, in
-// checking order", 1 to 7).
+// The job table, read from bytes, with every check that the papers make of a table (document 01, "Commands" and "Stops, in
+// checking order", 1 to 7; document 02, W3, 19).
 use commands::Found;
 use refusal::Reason;
 use refusal::Refusal;
@@ -18,6 +18,9 @@ pub struct Job {
     pub deletes: u64,
     pub seconds: u16,
 }
+
+// The most seconds that a job may be listed with.
+pub const MAX_SECONDS: u16 = 5_400;
 
 // What a sound table says besides its jobs.
 pub struct Header {
@@ -127,7 +130,7 @@ fn effects_overlap(job: Job) -> bool
     masks::share_fact(job.adds, job.deletes) || masks::share_fact(job.adds, job.needs)
 }
 
-// A job's masks against the number of facts and against each other; `at` is where its command stands.
+// A job's masks against the number of facts and against each other, then its seconds; `at` is where its command stands.
 pub fn judge(facts: u8, at: usize, job: Job) -> Judged
     ensures { λ r. ⌜ judgedOf job r ≡ judged facts at job ⌝ }
 {
@@ -140,6 +143,12 @@ pub fn judge(facts: u8, at: usize, job: Job) -> Judged
     if effects_overlap(job) {
         return Judged::Refused(Refusal {
             reason: Reason::EffectsOverlap,
+            place: at,
+        });
+    }
+    if job.seconds > MAX_SECONDS {
+        return Judged::Refused(Refusal {
+            reason: Reason::JobTooLong,
             place: at,
         });
     }

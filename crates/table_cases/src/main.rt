@@ -1,5 +1,5 @@
 // Runs the table writer and reader over document 01's trailer table and over damaged copies of it, and prints what they answer.
-// What is printed is compared with the file `stdout`, which an account of document 01 that is not ours made.
+// What is printed is compared with the file `stdout`, which an account of the papers made that shares no code with ours.
 use libc::STDOUT_FILENO;
 use refusal::Refusal;
 use table::JobRead;
@@ -157,6 +157,10 @@ fn main() {
     let deletes = [0x01u64, 0x02, 0x00, 0x00, 0x00];
     let seconds = [300u16, 240, 600, 600, 150];
     let four = [0x02u64, 0x01, 0x04, 0x08];
+    let longest = [5_400u16, 0, 5_400, 0, 5_400];
+    let longer = [5_400u16, 0, 5_401, 0, 5_400];
+    let overlap = [0x01u64, 0x02, 0x04, 0x00, 0x00];
+    let overlap_later = [0x01u64, 0x02, 0x00, 0x08, 0x00];
     let mut short = [0u8; 146];
     let mut out = [0u8; 147];
     show_written(table_writer::write_table(5, &needs, &adds, &deletes, &seconds, 0x10, &mut out));
@@ -188,5 +192,21 @@ fn main() {
     show_written(table_writer::write_table(5, &needs, &needs, &deletes, &seconds, 0x10, &mut out));
     show_written(table_writer::write_table(5, &needs, &four, &deletes, &seconds, 0x10, &mut out));
     show_written(table_writer::write_table(5, &needs, &adds, &deletes, &seconds, 0x10, &mut short));
+    show(&out);
+    show_written(table_writer::write_table(5, &needs, &adds, &deletes, &longest, 0x10, &mut out));
+    show(&out);
+    show_jobs(&out, 5);
+    show_written(table_writer::write_table(5, &needs, &adds, &deletes, &longer, 0x10, &mut out));
+    show_written(table_writer::write_table(5, &needs, &adds, &overlap, &longer, 0x10, &mut out));
+    show_written(table_writer::write_table(5, &needs, &adds, &overlap_later, &longer, 0x10, &mut out));
+    show_written(table_writer::write_table(5, &needs, &adds, &deletes, &longer, 0x20, &mut out));
+    show_written(table_writer::write_table(2, &needs, &adds, &deletes, &longer, 0x10, &mut out));
+    show(&out);
+    // The low byte of job 2's seconds makes them 5,401: alone, with its operands cut, and with faults of later commands.
+    put(&mut out, 81, 0x19);
+    show(&out);
+    show_part(&out, 82);
+    show_part(&out, 146);
+    put(&mut out, 137, commands::JOB);
     show(&out);
 }

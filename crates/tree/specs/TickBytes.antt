@@ -21,7 +21,7 @@ unfoldable pub tickChecked : ℕ → ℕ → List ℕ → Reading → Checked Ve
 tickChecked facts jobs tree r =
     if sound facts r then andThen (readTree tree facts jobs) (λ t. accepted (tickTree r t)) else refused 8 0
 
--- the table first (1 to 7), then the reading (8), then the tree (13 to 15), to its last byte; then the tick
+-- the table's own stops first, then the reading (8), then the tree (13 to 15), to its last byte; then the tick
 unfoldable pub tickBytes : List ℕ → List ℕ → Reading → Checked Verdict
 tickBytes table tree r = andThen (readTable table) λ t. tickChecked (t .facts) (length (t .jobs)) tree r
 

@@ -1,4 +1,4 @@
--- A card that is not exhausted has fewer than 65,535 reports and sums of at most 65,535 for each, so that one more fits each of them.
+-- A card that is not exhausted has fewer than 65,535 reports and bounded sums, so that one more fits each of them.
 -- Assumes nothing.
 use borrow.Author.Needs.{needs}
 use native.Mathlib.Omega.{arith}
