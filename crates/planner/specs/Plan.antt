@@ -1,5 +1,5 @@
--- The plan for a vehicle, from the bytes of a table and a start reading: document 01, "Expansion", "Job card" and stops 1 to 12; and the plan
--- for the whole shift, from a table alone: document 02, W2.
+-- The plan for a vehicle, from the bytes of a table and a start reading: document 01, "Expansion", "Job card", the table's stops and 8 to
+-- 12; and the plan for the whole shift, from a table alone: document 02, W2.
 -- Definitions only.
 use Prim.Native.Nat.{ℕ, zero, _+_, _-_, _*_}
 use mathlib.Core.Path.{_≡_}
@@ -103,7 +103,7 @@ unfoldable pub laidFrom : Table → Reading → ℕ → ℕ → Laid Summary
 laidFrom t start capacity room =
     if sound (t .facts) start then (if eqb (start .unread) 0 then laidFor t (start .held) capacity room else unlaid 9 0) else unlaid 8 0
 
--- the table first: 1 to 7
+-- the table's own stops first
 abbrev pub laidIn : Checked Table → Reading → ℕ → ℕ → Laid Summary
 laidIn (accepted t) start capacity room = laidFrom t start capacity room
 laidIn (refused n p) start capacity room = unlaid n p
@@ -127,7 +127,7 @@ shiftBy room (covered l) = withTree room (sizeOf l) l
 unfoldable pub shiftFor : Table → ℕ → ℕ → Laid Size
 shiftFor t capacity room = shiftBy room (shiftPlan (tableActions t) (t .goal) capacity)
 
--- the table first: 1 to 7
+-- the table's own stops first
 abbrev pub shiftIn : Checked Table → ℕ → ℕ → Laid Size
 shiftIn (accepted t) capacity room = shiftFor t capacity room
 shiftIn (refused n p) capacity room = unlaid n p

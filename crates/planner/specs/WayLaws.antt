@@ -1,16 +1,29 @@
 -- Laws of the way along the parents.
 -- Assumes nothing.
-use Prim.Native.Nat.{ℕ, zero, suc, _+_, _<_}
+use Prim.Native.Nat.{ℕ, zero, suc, _+_, _*_, _≤_, _<_}
 use native.Mathlib.Omega.{arith}
 use mathlib.Core.Path.{_≡_, ap}
-use mathlib.Core.List.{List}
-use lib.ListN.{getD}
+use mathlib.Core.List.{List, [], _∷_}
+use lib.ListN.{length, getD}
+use Rattle.commands.specs.NumberLaws.{AreBytes}
 use Rattle.table.specs.declared.Job.{Job}
-use Rattle.table.specs.Table.{noJob}
+use Rattle.table.specs.Table.{maxSeconds, noJob}
+use Rattle.table.specs.Read.{readTable, jobsOf}
+use Rattle.table.specs.RoundTrip.{listed-in-time}
 use Rattle.planning.specs.Listing.{path}
-use Rattle.planning.specs.PathLaws.{path-step}
+use Rattle.planning.specs.PathLaws.{path-short, path-step}
 use Rattle.planner.specs.Plan.{secondsOf}
 use Rattle.planner.specs.Way.{linked, Linked}
+
+-- document 02, W3: "whoever sums the times may rely on it". No row of jobs has more seconds than the longest job for each of them.
+pub seconds-most : (s : List ℕ) → AreBytes s → (w : List ℕ) → secondsOf (jobsOf (readTable s)) w ≤ maxSeconds * length w
+seconds-most s b [] = omega arith
+seconds-most s b (a ∷ w) = omega (arith, listed-in-time s b a, seconds-most s b w)
+
+-- so a way is bounded by the entry that it begins at, however the parents run
+pub way-most : (s : List ℕ) → AreBytes s → (actions parents : List ℕ) (i : ℕ)
+    → secondsOf (jobsOf (readTable s)) (path (linked actions parents) i) ≤ maxSeconds * i
+way-most s b actions parents i = omega (arith, seconds-most s b (path (linked actions parents) i), path-short (linked actions parents) i)
 
 -- an entry's seconds are those of its action, and then its parent's
 pub seconds-step : (jobs : List Job) (count n : ℕ) (actions parents : List ℕ) → Linked count n actions parents → (i : ℕ) → 0 < i → i < n

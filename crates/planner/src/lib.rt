@@ -1,5 +1,5 @@
 // The plan for a vehicle: from a table's bytes and a start reading, the list of conditions, its tree, and the way with its
-// time (document 01, "Expansion" and stops 1 to 12); and the plan for the whole shift, which takes no start (document 02, W2).
+// time (document 01, "Expansion", the table's stops and 8 to 12); and the plan for the whole shift, which takes no start (document 02, W2).
 use expander::Expanded;
 use expander::Stop;
 use reading::Reading;

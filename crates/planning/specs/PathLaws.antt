@@ -4,7 +4,17 @@ use mathlib.Core.Path.{_≡_, refl, sym, ap, _∙_}
 use mathlib.Core.List.{List, [], _∷_}
 use Prim.Native.Nat.{ℕ, zero, suc, _≤_, _<_}
 use native.Mathlib.Omega.{arith}
+use lib.ListN.{length}
 use Rattle.planning.specs.Listing.{Listing, pathUpTo, path}
+
+-- an entry has at most as many actions to go as there are entries before it
+pub path-short : {Condition Action : Type 0} (P : Listing Condition Action) (i : ℕ) → length (path P i) ≤ i
+path-short {Condition} {Action} P i = up-to i i
+  where
+    up-to : (f i : ℕ) → length (pathUpTo P f i) ≤ f
+    up-to zero i = omega arith
+    up-to (suc f) zero = omega arith
+    up-to (suc f) (suc i) = omega (arith, up-to f (P .parent (suc i)))
 
 module _ {Condition Action : Type 0} (P : Listing Condition Action) (n : ℕ) (earlier : (i : ℕ) → suc i < n → P .parent (suc i) < suc i) where
   at-goal : (f : ℕ) → pathUpTo P f 0 ≡ []

@@ -1,22 +1,23 @@
 -- `planner::way_seconds` meets its contract. The loop's invariant: the seconds so far and those of the rest of the way are the whole way's.
+-- So no sum of the loop exceeds the way's, which has room: each job is listed with at most 5,400 seconds, and at most 4,095 are on the way.
 -- The measure is the entry, since each parent is an earlier one.
 -- Assumes nothing.
 use borrow.Author.Needs.{needs}
 use native.Mathlib.Omega.{arith}
 use mathlib.Core.Path.{_≡_, ap}
-use Prim.Native.Nat.{_+_, _*_, _-_, _≤_}
+use Prim.Native.Nat.{_+_, _≤_}
 use Rattle.table.specs.declared.Job.{Job}
 use Rattle.table.specs.Read.{jobsOf, readTable}
 use Rattle.planning.specs.Listing.{path}
 use Rattle.planner.specs.Plan.{secondsOf}
 use Rattle.planner.specs.Way.{linked}
-use Rattle.planner.specs.WayLaws.{seconds-step, link-earlier, link-known}
+use Rattle.planner.specs.WayLaws.{way-most, seconds-step, link-earlier, link-known}
 use Rattle.planner.proofs.way_seconds.Statement.{statement}
 use Rattle.planner.proofs.way_seconds.Tie as tie
 
 abbrev Inv-loop : tie.InvT-loop
 Inv-loop table last actions parents seconds₀ i₀ seconds i =
-    ((i ≤ last) × (seconds + 65535 * i ≤ 65535 * last))
+    (i ≤ last)
     × (seconds + secondsOf (jobsOf (readTable table)) (path (linked actions parents) i) ≡ secondsOf (jobsOf (readTable table)) (path (linked actions parents) last))
 
 abbrev μ-loop : tie.MeasureT-loop
@@ -41,7 +42,13 @@ cast-seconds : tie.Need-cast-seconds Inv-loop μ-loop
 cast-seconds c = search needs
 
 add-seconds : tie.Need-add-seconds Inv-loop μ-loop
-add-seconds c = search needs
+add-seconds c =
+    let a = c .before .before .before .before .before .before .before .before in
+    let l = c .before .before .before .before .loop in
+    let s = seconds-step (jobsOf (readTable (a .args .table .now))) _ _ (a .args .actions .now) (a .args .parents .now) (a .pre) (l .i) (omega (arith, c .before .before .before .loop-test .taken)) (omega (arith, l .inv)) in
+    let j = ap (λ (j : Job). j .seconds) (c .before .job-at .ensures) in
+    let most = way-most (a .args .table .now) (λ i. c .before .before .before .before .before .before .before .shared-slice-known .given i .fits) (a .args .actions .now) (a .args .parents .now) (a .args .last) in
+    omega (arith, l .inv .1, s, j, a .pre .few, most)
 
 mul-i : tie.Need-mul-i Inv-loop μ-loop
 mul-i c = search needs
@@ -66,7 +73,7 @@ loop-again c =
     let e = link-earlier _ _ (a .args .actions .now) (a .args .parents .now) (a .pre) (l .i) (omega (arith, some)) (omega (arith, l .inv)) in
     let s = seconds-step (jobsOf (readTable (a .args .table .now))) _ _ (a .args .actions .now) (a .args .parents .now) (a .pre) (l .i) (omega (arith, some)) (omega (arith, l .inv)) in
     let j = ap (λ (j : Job). j .seconds) (c .before .before .job-at .ensures) in
-    (omega (arith, e, l .inv, c .before .before .job-at .ok), omega (arith, l .inv .1, s, j))
+    (omega (arith, e, l .inv), omega (arith, l .inv .1, s, j))
 
 returns : tie.Need-returns Inv-loop μ-loop
 returns c =
