@@ -9,7 +9,7 @@
  * number is 0. What one call is lent, `answer` and the parts of a card included, does not overlap, and nobody else writes to it
  * meanwhile. That, and that each pointer is good for its length, is all that is asked of the caller.
  *
- * Answers. Each function with an `answer` returns its first word: 0, or the number of a refusal (1 to 18, below). `answer` is
+ * Answers. Each function with an `answer` returns its first word: 0, or the number of a refusal (1 to 19, below). `answer` is
  * written whole in every case. Of a refusal answer[1] is the place, and the words after it are 0. A refused call writes to
  * nothing else that is lent, but for the list tables of bay_plan and bay_plan_shift after 10, 11 and 12.
  *
@@ -22,9 +22,10 @@
  *   13 a tree is overlong, cut or malformed                14 a tree node is deeper than 16
  *   15 a tree mask has a bit at or above F, or a job number is not below the job count
  *   16 a report names no job of the table                  17 a need of the reported job is unread or absent
- *   18 the card has 65,535 reports, or one of its sums exceeds 65,535 times its count
+ *   18 the card has 65,535 reports, its taken sum exceeds 65,535 times its count, or its planned sum 5,400 times its count
+ *   19 a job is listed with more than 5,400 seconds; in each job it is judged after 6
  *
- * The place is the faulty command's offset for 1 to 7 and 13 to 15, the number of entries stored for 10 to 12, else 0.
+ * The place is the faulty command's offset for 1 to 7, 13 to 15 and 19, the number of entries stored for 10 to 12, else 0.
  */
 #ifndef BAY_H
 #define BAY_H
@@ -36,10 +37,12 @@
 extern "C" {
 #endif
 
-/* The most entries that a plan lists, the bytes of the largest tree that a tick takes, and the action stored for entry 0. */
+/* The most entries that a plan lists, the bytes of the largest tree that a tick takes, the action stored for entry 0, and the most
+ * seconds that a table lists a job with. */
 #define BAY_MAX_ENTRIES 4096
 #define BAY_MAX_TREE_BYTES 65535
 #define BAY_NO_JOB 255
+#define BAY_MAX_SECONDS 5400
 
 /* ---- the table */
 

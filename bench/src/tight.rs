@@ -24,7 +24,7 @@ fn facts_beyond(facts: u32) -> u64 {
     }
 }
 
-/// Reads a table, stops 1 to 7.
+/// Reads a table, stops 1 to 7 and 19.
 pub fn read_table(bytes: &[u8]) -> Result<Header, Refusal> {
     let length = bytes.len();
     if length < 2 {
@@ -51,6 +51,9 @@ pub fn read_table(bytes: &[u8]) -> Result<Header, Refusal> {
         }
         if adds & (needs | deletes) != 0 {
             return refuse(6, at);
+        }
+        if u16::from_le_bytes([operands[24], operands[25]]) > 5_400 {
+            return refuse(19, at);
         }
         count += 1;
         at += 27;

@@ -33,6 +33,8 @@ pub const WIDTHS: [(u8, usize); 9] = [
 ];
 
 pub const MOST_JOBS: usize = 128;
+/// Document 02, W3.
+pub const MOST_SECONDS: u16 = 5_400;
 pub const MOST_ENTRIES: usize = 4096;
 pub const MOST_CHILDREN: usize = 4096;
 pub const MOST_DEPTH: usize = 16;
@@ -131,7 +133,7 @@ fn table_command<'a>(bytes: &'a [u8], at: usize, allowed: &[u8]) -> Result<(u8, 
     }
 }
 
-/// Reads a table, stops 1 to 7.
+/// Reads a table, stops 1 to 7 and 19.
 pub fn read_table(bytes: &[u8]) -> Result<Table, Refusal> {
     let mut at = 0;
     let (_, operands) = table_command(bytes, at, &[FACTS])?;
@@ -166,6 +168,9 @@ pub fn read_table(bytes: &[u8]) -> Result<Table, Refusal> {
         }
         if job.adds & job.deletes != 0 || job.adds & job.needs != 0 {
             return refuse(6, at);
+        }
+        if job.seconds > MOST_SECONDS {
+            return refuse(19, at);
         }
         jobs.push(job);
         at += 1 + width_of(JOB);
@@ -436,7 +441,7 @@ pub struct Planned {
     pub way_minutes: i64,
 }
 
-/// Plans from a start, stops 1 to 12.
+/// Plans from a start: the table's stops, then 8 to 12.
 pub fn plan(table: &[u8], held: u64, unread: u64, lent: &mut Lent) -> Result<Planned, Refusal> {
     let table = read_table(table)?;
     judge_reading(&table, held, unread)?;
@@ -456,7 +461,7 @@ pub fn plan(table: &[u8], held: u64, unread: u64, lent: &mut Lent) -> Result<Pla
     Ok(Planned { entries: list.len(), tree_bytes, way_jobs: way.len(), way_minutes: minutes(seconds_of(&table, &way)) })
 }
 
-/// Plans for the whole shift (document 02, W2), stops 1 to 7, 10 and 12: the entries and the bytes of the tree.
+/// Plans for the whole shift (document 02, W2), the table's stops, then 10 and 12: the entries and the bytes of the tree.
 pub fn plan_shift(table: &[u8], lent: &mut Lent) -> Result<(usize, usize), Refusal> {
     let table = read_table(table)?;
     let (list, ending) = expand(&table, None, lent.capacity());
@@ -599,7 +604,7 @@ pub fn tick_node(node: &Node, held: u64, unread: u64) -> Ticked {
     }
 }
 
-/// Ticks a tree on a reading, stops 1 to 8 and 13 to 15.
+/// Ticks a tree on a reading: the table's stops, then 8, then 13 to 15.
 pub fn tick(table: &[u8], tree: &[u8], held: u64, unread: u64) -> Result<Ticked, Refusal> {
     let table = read_table(table)?;
     judge_reading(&table, held, unread)?;
@@ -645,8 +650,8 @@ pub fn report(table: &[u8], number: u8, seconds: u16, card: &mut Card) -> Result
     if !job.is_applicable(card.held) {
         return refuse(17, 0);
     }
-    let bound = 65_535 * u64::from(card.reports);
-    if card.reports == 65_535 || u64::from(card.taken) > bound || u64::from(card.planned) > bound {
+    let most = |seconds: u16| u64::from(seconds) * u64::from(card.reports);
+    if card.reports == 65_535 || u64::from(card.taken) > most(65_535) || u64::from(card.planned) > most(MOST_SECONDS) {
         return refuse(18, 0);
     }
     card.held = job.finish(card.held);

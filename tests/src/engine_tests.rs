@@ -144,6 +144,17 @@ fn stops_of_the_table() {
     assert_eq!(table_stop(&table_bytes(5, &[Job { needs: 0x04, ..job }], 0x10)), (6, 2));
     let longer = [&sound[..], &[END_OF_TABLE]].concat();
     assert_eq!(table_stop(&longer), (7, 147));
+    // Too long a job comes after an overlap in its own command, and before whatever is wrong in a later one.
+    let long = Job { seconds: 5_401, ..job };
+    assert!(read_table(&table_bytes(5, &[Job { seconds: 5_400, ..job }], 0x10)).is_ok());
+    assert_eq!(table_stop(&table_bytes(5, &[job, long], 0x10)), (19, 29));
+    assert_eq!(table_stop(&table_bytes(5, &[Job { needs: 0x04, ..long }], 0x10)), (6, 2));
+    assert_eq!(table_stop(&table_bytes(5, &[Job { needs: 0x20, ..long }], 0x10)), (5, 2));
+    assert_eq!(table_stop(&table_bytes(5, &[long, Job { needs: 0x04, ..job }], 0x20)), (19, 2));
+    assert_eq!(table_stop(&table_bytes(5, &[long; 129], 0x10)), (19, 2));
+    let many = [&[job; 128][..], &[long]].concat();
+    assert_eq!(table_stop(&table_bytes(5, &many, 0x10)), (4, 2 + 27 * 128));
+    assert_eq!(table_stop(&[&table_bytes(5, &[long], 0x10)[..], &[END_OF_TABLE]].concat()), (19, 2));
 }
 
 #[test]
@@ -183,6 +194,10 @@ fn stops_of_a_report_come_in_order() {
     assert_eq!(number(Card { reports: 65_535, ..card }, 1), Some(17));
     assert_eq!(number(Card { reports: 65_535, ..card }, 0), Some(18));
     assert_eq!(number(Card { taken: 1, ..card }, 0), Some(18));
-    assert_eq!(number(Card { reports: 1, planned: 65_536, ..card }, 0), Some(18));
-    assert_eq!(number(Card { reports: 65_534, taken: 65_534 * 65_535, planned: 65_534 * 65_535, ..card }, 0), None);
+    // A planned sum above 5,400 for each report, as an older table may have left it.
+    assert_eq!(number(Card { reports: 1, planned: 5_401, ..card }, 0), Some(18));
+    assert_eq!(number(Card { reports: 1, planned: 5_400, ..card }, 0), None);
+    assert_eq!(number(Card { reports: 1, taken: 65_535, ..card }, 0), None);
+    assert_eq!(number(Card { reports: 1, taken: 65_536, ..card }, 0), Some(18));
+    assert_eq!(number(Card { reports: 65_534, taken: 65_534 * 65_535, planned: 65_534 * 5_400, ..card }, 0), None);
 }

@@ -91,9 +91,14 @@ fn fixed_cases() -> Vec<Case> {
         cases.push(case(&format!("jobs_{count}_and_no_goal"), &bytes[..last], &trailer::start(0x01, 0)));
     }
     // The largest sound table, and one byte more.
-    let largest = table_bytes(64, &[Job { needs: 1, adds: 2, deletes: 1, seconds: 65_535 }; 128], 2);
+    let largest = table_bytes(64, &[Job { needs: 1, adds: 2, deletes: 1, seconds: MOST_SECONDS }; 128], 2);
     assert_eq!(largest.len(), 3_468);
     cases.push(case("largest_table", &largest, &trailer::start(1, 0)));
+    for (name, seconds) in [("longest_job", 5_400), ("longer_job", 5_401)] {
+        let mut jobs = trailer::jobs();
+        jobs[3].seconds = seconds;
+        cases.push(case(name, &table_bytes(5, &jobs, 0x10), &trailer::start(0x02, 0)));
+    }
     cases.push(case("largest_table_and_a_byte", &[&largest[..], &[0]].concat(), &trailer::start(1, 0)));
     for pairs in [11, 12, 13] {
         let (bytes, start) = long_table(pairs);
@@ -202,7 +207,7 @@ fn main() {
 
     // Every answer is among the cases but 12: a list of 4,096 entries needs 57,343 bytes, and 65,535 are lent.
     assert!(14 * MOST_ENTRIES - 1 <= MOST_TREE_BYTES);
-    for number in 1..=11 {
+    for number in (1..=11).chain([19]) {
         if !numbers.contains_key(&format!("refused {number}")) {
             println!("FAILED no case is refused as {number}");
             failed += 1;

@@ -20,15 +20,15 @@ fn reached(function: &'static str, number: u64) {
 
 /// The numbers that each function can give.
 const NUMBERS: [(&str, &[u64]); 9] = [
-    ("read_table", &[0, 1, 2, 3, 4, 5, 6, 7]),
-    ("read_job", &[0, 1, 2, 3, 4, 5, 6, 7, 16]),
-    ("write_table", &[0, 3, 4, 5, 6, ffi::TOO_SHORT, ffi::UNEVEN]),
-    ("plan", &[0, 1, 2, 3, 4, 5, 6, 7, 8, 9, 10, 11, 12]),
-    ("plan_shift", &[0, 1, 2, 3, 4, 5, 6, 7, 10, 12]),
-    ("tick", &[0, 1, 2, 3, 4, 5, 6, 7, 8, 13, 14, 15]),
-    ("open", &[0, 1, 2, 3, 4, 5, 6, 7, 8]),
-    ("read_outside", &[0, 1, 2, 3, 4, 5, 6, 7, 8]),
-    ("report", &[0, 1, 2, 3, 4, 5, 6, 7, 8, 16, 17, 18]),
+    ("read_table", &[0, 1, 2, 3, 4, 5, 6, 7, 19]),
+    ("read_job", &[0, 1, 2, 3, 4, 5, 6, 7, 16, 19]),
+    ("write_table", &[0, 3, 4, 5, 6, 19, ffi::TOO_SHORT, ffi::UNEVEN]),
+    ("plan", &[0, 1, 2, 3, 4, 5, 6, 7, 8, 9, 10, 11, 12, 19]),
+    ("plan_shift", &[0, 1, 2, 3, 4, 5, 6, 7, 10, 12, 19]),
+    ("tick", &[0, 1, 2, 3, 4, 5, 6, 7, 8, 13, 14, 15, 19]),
+    ("open", &[0, 1, 2, 3, 4, 5, 6, 7, 8, 19]),
+    ("read_outside", &[0, 1, 2, 3, 4, 5, 6, 7, 8, 19]),
+    ("report", &[0, 1, 2, 3, 4, 5, 6, 7, 8, 16, 17, 18, 19]),
 ];
 
 /// The last group: every function gave every number that it can, and no other.

@@ -12,13 +12,15 @@ pub fn groups() -> Vec<Group> {
         Group { name: "cards_sound_and_unsound", cases: 60_000, run: any_card },
         Group { name: "cards_refused", cases: 30_000, run: refused },
         Group { name: "cards_through_a_plan", cases: 6_000, run: through_a_plan },
+        Group { name: "cards_of_older_tables", cases: 4_000, run: of_an_older_table },
         Group { name: "card_of_65535_reports", cases: 1, run: most_reports },
         Group { name: "lateness", cases: 2_000, run: lateness },
     ]
 }
 
-fn sum(random: &mut Random, reports: u16) -> u32 {
-    let bound = 65_535 * u32::from(reports);
+/// A sum of so many reports, of at most so many seconds each, or above that.
+fn sum(random: &mut Random, reports: u16, most: u16) -> u32 {
+    let bound = u32::from(most) * u32::from(reports);
     match random.below(8) {
         0 => 0,
         1 => bound,
@@ -33,7 +35,7 @@ fn card(random: &mut Random, facts: u32) -> Card {
     let (held, unread) = if random.one_in(4) { make::any_reading(random, facts) } else { make::reading(random, facts) };
     let any = random.next() as u16;
     let reports = *random.pick(&[0, 1, 2, 65_533, 65_534, 65_535, any]);
-    let (taken, planned) = (sum(random, reports), sum(random, reports));
+    let (taken, planned) = (sum(random, reports, 65_535), sum(random, reports, MOST_SECONDS));
     Card { held, unread, reports, taken, planned }
 }
 
@@ -118,16 +120,44 @@ fn through_a_plan(random: &mut Random, _: u64) {
 
 /// A card takes 65,535 reports, each of the most seconds, and then 18.
 fn most_reports(_: &mut Random, _: u64) {
-    let jobs = [Job { needs: 1, adds: 2, deletes: 0, seconds: 65_535 }];
+    let jobs = [Job { needs: 1, adds: 2, deletes: 0, seconds: MOST_SECONDS }];
     let bytes = table_bytes(2, &jobs, 2);
     let mut card = Card::default();
     checks::open(&bytes, 1, 2, &mut card).expect("a sound reading");
     for _ in 0..65_535 {
         checks::report(&bytes, 0, 65_535, &mut card).expect("a report within the bounds");
     }
-    assert_eq!((card.reports, card.taken, card.planned), (65_535, 4_294_836_225, 4_294_836_225));
+    assert_eq!((card.reports, card.taken, card.planned), (65_535, 4_294_836_225, 353_889_000));
     let refusal = checks::report(&bytes, 0, 0, &mut card).expect_err("the card is full");
     assert_eq!((refusal.number, refusal.place), (18, 0));
+}
+
+/// A card that was filled before document 02's W3, when a job could be listed with any 16 bits of seconds. Where its planned sum is above
+/// the new limit, each report is 18 and the card stays; an outside reading, the lateness and ticks take it as before, and a new opening
+/// ends it. Reported seconds have no such limit.
+fn of_an_older_table(random: &mut Random, _: u64) {
+    let reports = random.between(1, 9) as u16;
+    let limit = 5_400 * u32::from(reports);
+    let listed: u32 = (0..reports).map(|_| random.below(12_000) as u32).sum();
+    let planned = *random.pick(&[limit, limit + 1, 65_535 * u32::from(reports), listed]);
+    let taken = 65_535 * u32::from(reports);
+    let bytes = table_bytes(3, &[Job { needs: 1, adds: 2, deletes: 0, seconds: MOST_SECONDS }], 2);
+    let old = Card { held: 1, unread: 4, reports, taken, planned };
+    let mut card = old;
+    let is_over = planned > limit;
+    for _ in 0..2 {
+        match checks::report(&bytes, 0, 65_535, &mut card) {
+            Ok(()) => assert!(!is_over),
+            Err(refusal) => assert_eq!((is_over, refusal.number, refusal.place, card), (true, 18, 0, old)),
+        }
+    }
+    checks::lateness(card.taken, card.planned);
+    checks::tick(&bytes, &[JOB_LEAF, 0, END_OF_TREE], card.held, card.unread).expect("the counts are not judged");
+    checks::read_outside(&bytes, 5, 0, &mut card).expect("the counts are not judged");
+    assert_eq!(checks::report(&bytes, 0, 1, &mut card).is_err(), is_over);
+    checks::open(&bytes, 1, 0, &mut card).expect("a sound reading");
+    checks::report(&bytes, 0, 65_535, &mut card).expect("a new card has no old sums");
+    assert_eq!((card.reports, card.taken, card.planned), (1, 65_535, 5_400));
 }
 
 fn lateness(random: &mut Random, index: u64) {

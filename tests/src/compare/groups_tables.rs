@@ -115,7 +115,7 @@ fn written(random: &mut Random, _: u64) {
     for _ in 0..random.below(3) {
         let jobs = columns.needs.len();
         let high = 1 << random.between(table.facts as usize - 1, 63);
-        match random.below(8) {
+        match random.below(9) {
             0 => facts = *random.pick(&[0, 1, 64, 65, 255]),
             1 => goal |= high,
             2 if jobs > 0 => *random.pick_mut(&mut columns.needs) |= high,
@@ -125,6 +125,7 @@ fn written(random: &mut Random, _: u64) {
                 columns.seconds.pop();
             }
             6 => columns.deletes.push(0),
+            8 if !columns.seconds.is_empty() => *random.pick_mut(&mut columns.seconds) = make::too_long(random),
             7 => {
                 columns.needs.push(1);
                 columns.adds.push(2);

@@ -15,7 +15,7 @@ pub fn job(random: &mut Random, facts: u32) -> Job {
     let needs = random.facts(facts, 2) & !adds;
     let deletes = random.facts(facts, 2) & !adds;
     let usual = random.below(2_000) as u16;
-    let seconds = *random.pick(&[0, 1, 29, 30, 31, 60, 90, 5_400, 65_535, usual]);
+    let seconds = *random.pick(&[0, 1, 29, 30, 31, 60, 90, 5_399, 5_400, usual]);
     Job { needs, adds, deletes, seconds }
 }
 
@@ -39,13 +39,27 @@ pub fn busy_table(random: &mut Random, facts: u32) -> Table {
     Table { facts, jobs, goal: random.facts(facts, 2) | 1 << random.below(facts as usize) }
 }
 
+/// Seconds that no job may be listed with.
+pub fn too_long(random: &mut Random) -> u16 {
+    let any = random.between(5_401, 65_535) as u16;
+    *random.pick(&[5_401, 65_535, any])
+}
+
 /// The bytes of a table with a fault, now and then that of 129 jobs.
 pub fn damaged_bytes(random: &mut Random, table: &Table) -> Vec<u8> {
     if random.one_in(100) {
         let job = job(random, table.facts);
         return table_bytes(table.facts as u8, &[job; MOST_JOBS + 1], table.goal);
     }
-    let mut bytes = bytes_of(table);
+    let mut table = table.clone();
+    if random.one_in(10) && !table.jobs.is_empty() {
+        // Too long; what is damaged below may come before it or after it.
+        random.pick_mut(&mut table.jobs).seconds = too_long(random);
+        if random.one_in(3) {
+            return bytes_of(&table);
+        }
+    }
+    let mut bytes = bytes_of(&table);
     if random.one_in(20) {
         bytes[1] = *random.pick(&[0, 65, 255]);
     } else {
@@ -131,7 +145,8 @@ pub fn table_like(random: &mut Random) -> Vec<u8> {
         for _ in 0..3 {
             bytes.extend(mask(random).to_le_bytes());
         }
-        bytes.extend((random.next() as u16).to_le_bytes());
+        let seconds = if random.one_in(4) { too_long(random) } else { random.below(5_401) as u16 };
+        bytes.extend(seconds.to_le_bytes());
         if random.one_in(6) {
             bytes.push(*random.pick(&TABLE_COMMANDS));
         }
@@ -268,7 +283,7 @@ pub fn small_table(random: &mut Random, index: u64) -> Table {
     let facts = random.between(3, 5) as u32;
     match index {
         0 => read_table(&trailer::table()).expect("sound"),
-        1 | 2 => counter_table(index as usize + 1, 65_535).0,
+        1 | 2 => counter_table(index as usize + 1, MOST_SECONDS).0,
         _ if index % 8 == 4 => busy_table(random, 6),
         _ if index % 2 == 0 => busy_table(random, facts),
         _ => table(random, 5, 8),
