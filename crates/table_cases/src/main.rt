@@ -159,8 +159,9 @@ fn main() {
     let four = [0x02u64, 0x01, 0x04, 0x08];
     let longest = [5_400u16, 0, 5_400, 0, 5_400];
     let longer = [5_400u16, 0, 5_401, 0, 5_400];
+    // Deletes that overlap in the job that is longer, and in the one after it.
     let overlap = [0x01u64, 0x02, 0x04, 0x00, 0x00];
-    let overlap_later = [0x01u64, 0x02, 0x00, 0x08, 0x00];
+    let later = [0x01u64, 0x02, 0x00, 0x08, 0x00];
     let mut short = [0u8; 146];
     let mut out = [0u8; 147];
     show_written(table_writer::write_table(5, &needs, &adds, &deletes, &seconds, 0x10, &mut out));
@@ -198,7 +199,7 @@ fn main() {
     show_jobs(&out, 5);
     show_written(table_writer::write_table(5, &needs, &adds, &deletes, &longer, 0x10, &mut out));
     show_written(table_writer::write_table(5, &needs, &adds, &overlap, &longer, 0x10, &mut out));
-    show_written(table_writer::write_table(5, &needs, &adds, &overlap_later, &longer, 0x10, &mut out));
+    show_written(table_writer::write_table(5, &needs, &adds, &later, &longer, 0x10, &mut out));
     show_written(table_writer::write_table(5, &needs, &adds, &deletes, &longer, 0x20, &mut out));
     show_written(table_writer::write_table(2, &needs, &adds, &deletes, &longer, 0x10, &mut out));
     show(&out);
