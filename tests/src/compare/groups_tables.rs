@@ -125,11 +125,11 @@ fn written(random: &mut Random, _: u64) {
                 columns.seconds.pop();
             }
             6 => columns.deletes.push(0),
-            8 if !columns.seconds.is_empty() => *random.pick_mut(&mut columns.seconds) = make::too_long(random),
             7 => {
                 columns.needs.push(1);
                 columns.adds.push(2);
             }
+            8 if !columns.seconds.is_empty() => *random.pick_mut(&mut columns.seconds) = make::too_long(random),
             _ => {}
         }
     }
