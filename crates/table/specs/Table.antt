@@ -4,6 +4,7 @@ use Prim.Native.Nat.{ℕ}
 use mathlib.Core.List.{List, [], _∷_, _++_}
 use Rattle.commands.specs.Commands.{FACTS, JOB, GOAL, END-OF-TABLE}
 use Rattle.commands.specs.Numbers.{toBytes}
+use Rattle.conditions.specs.declared.Action.{Action}
 use Rattle.table.specs.declared.Job.{Job}
 
 pub record Table : Type 0 where
@@ -14,6 +15,10 @@ pub record Table : Type 0 where
 -- what `getD` gives past the last job
 abbrev pub noJob : Job
 noJob = record { needs = 0; adds = 0; deletes = 0; seconds = 0 }
+
+-- what the job needs and does, without its seconds
+abbrev pub actionOf : Job → Action
+actionOf j = record { needs = j .needs; adds = j .adds; deletes = j .deletes }
 
 abbrev pub maxFacts : ℕ
 maxFacts = 64

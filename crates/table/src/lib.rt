@@ -1,13 +1,14 @@
 // The job table, read from bytes, with every check that the papers make of a table (document 01, "Commands" and "Stops, in
 // checking order", 1 to 7; document 02, W3, 19).
 use commands::Found;
+use conditions::Action;
 use refusal::Reason;
 use refusal::Refusal;
 ghost use mathlib.Core.Path.{_≡_};
 ghost use Prim.Native.Nat.{_+_, _≤_, _<_};
 ghost use lib.ListN.{length, getD};
 ghost use mathlib.Core.List.{List, []};
-ghost use Rattle.table.specs.Table.{Table, maxJobs, noJob};
+ghost use Rattle.table.specs.Table.{Table, maxJobs, noJob, actionOf};
 ghost use Rattle.table.specs.Read.{allowed, due, stepOf, jobAt, factsInRange, inRange, overlaps, judged, judgedOf, readEnd, readGoal, readJobs, readTable, jobsOf, namedJob, headerOf, headed, answerOf, jobReadOf};
 ghost use Rattle.refusal.specs.Checked.{andThen};
 
@@ -17,6 +18,17 @@ pub struct Job {
     pub adds: u64,
     pub deletes: u64,
     pub seconds: u16,
+}
+
+// What the job needs and does, without its seconds.
+pub fn action_of(job: Job) -> Action
+    ensures { λ r. ⌜ r ≡ actionOf job ⌝ }
+{
+    Action {
+        needs: job.needs,
+        adds: job.adds,
+        deletes: job.deletes,
+    }
 }
 
 // The most seconds that a job may be listed with.

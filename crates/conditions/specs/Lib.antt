@@ -1,0 +1,4 @@
+pub mod Condition
+pub mod OnReading
+pub mod ConditionLaws
+pub mod OnReadingLaws
