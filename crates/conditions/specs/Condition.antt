@@ -2,7 +2,9 @@
 -- equation 4 and Algorithm 1).
 -- Definitions only.
 use mathlib.Core.Bool.{Bool, not, _&&_}
+use mathlib.Core.List.{List}
 use Prim.Native.Nat.{ℕ}
+use lib.ListN.{getD}
 use Rattle.masks.specs.Sets.{subset, intersects, union, difference}
 use Rattle.conditions.specs.declared.Action.{Action}
 
@@ -33,3 +35,7 @@ relevant a c = intersects (a .adds) c && not (intersects (a .deletes) c)
 -- "The new condition is its needs together with c without its adds."
 unfoldable pub regressed : Action → Condition → Condition
 regressed a c = union (a .needs) (difference c (a .adds))
+
+-- action i of rows of masks, which hold no facts past their ends
+abbrev pub actionAt : List ℕ → List ℕ → List ℕ → ℕ → Action
+actionAt needs adds deletes i = record { needs = getD needs i 0; adds = getD adds i 0; deletes = getD deletes i 0 }

@@ -2,7 +2,8 @@
 // the table looks into an action or a condition. An action is document 01's job, without its seconds.
 use reading::Reading;
 ghost use mathlib.Core.Path.{_≡_};
-ghost use Rattle.conditions.specs.Condition.{weaker, satisfied, relevant, regressed};
+ghost use lib.ListN.{getD};
+ghost use Rattle.conditions.specs.Condition.{weaker, satisfied, relevant, regressed, actionAt};
 ghost use Rattle.conditions.specs.OnReading.{evaluated, applicable, finished};
 
 // The facts that the action needs, adds and deletes.
@@ -10,6 +11,30 @@ pub struct Action {
     pub needs: u64,
     pub adds: u64,
     pub deletes: u64,
+}
+
+// A mask of a row, which holds no facts past its end.
+pub fn mask_at(row: &[u64], i: usize) -> u64
+    ensures { λ r. ⌜ r ≡ getD (now (row .entry)) i 0 ⌝ }
+{
+    if i < row.len() {
+        return row[i];
+    }
+    0
+}
+
+// The action at an index of rows of masks.
+pub fn action_at(needs: &[u64], adds: &[u64], deletes: &[u64], i: usize) -> Action
+    ensures { λ r. ⌜ r ≡ actionAt (now (needs .entry)) (now (adds .entry)) (now (deletes .entry)) i ⌝ }
+{
+    let needed = mask_at(needs, i);
+    let added = mask_at(adds, i);
+    let deleted = mask_at(deletes, i);
+    Action {
+        needs: needed,
+        adds: added,
+        deletes: deleted,
+    }
 }
 
 // Is `c` a part of `d`?

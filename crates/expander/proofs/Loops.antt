@@ -12,8 +12,7 @@ use lib.Dec.{T, T-not, not-T, ltb, lt→ltb}
 use lib.ListN.{length, getD}
 use lib.Seq.{getD-set-other}
 use Rattle.base.specs.Bools.{and-intro, and-right}
-use Rattle.masks.specs.Sets.{subset}
-use Rattle.masks.specs.Effects.{relevant, regressed}
+use Rattle.conditions.specs.Condition.{Condition, weaker, relevant, regressed}
 use Rattle.planning.specs.Domain.{Domain}
 use Rattle.planning.specs.Expansion.{Entry, exhausted, covered, full, root, entryIn, newCondition, newEntry, wanted, remainingFrom, remainingAt}
 use Rattle.planning.specs.ExpansionSteps.{start-full, start-covered, start-going, enter-entry, leave-entry, last-entry, skip-action, list-full, list-ends}
@@ -35,7 +34,7 @@ pub record InRows (needs adds deletes : List ℕ) (count : ℕ) : Type 0 where
   pub few : count ≤ 128
 
 -- Where the loop began, the tables were t₀ and held n₀ entries; now they are t and hold n, and those below e are expanded.
-pub record AtEntry (A : Actions) (goal : ℕ) (stop : ℕ → Bool) (capacity count : ℕ) (t₀ : Columns) (n₀ : ℕ) (t : Columns) (n e : ℕ) : Type 0 where
+pub record AtEntry (A : Actions) (goal : Condition) (stop : Condition → Bool) (capacity count : ℕ) (t₀ : Columns) (n₀ : ℕ) (t : Columns) (n e : ℕ) : Type 0 where
   pub counted : count ≡ A .count
   pub holds : Holds capacity n t₀ t
   pub grown : n₀ ≤ n
@@ -43,7 +42,7 @@ pub record AtEntry (A : Actions) (goal : ℕ) (stop : ℕ → Bool) (capacity co
   pub same : remainingFrom (unitDomain A goal) (A .count) capacity stop e (held t n) ≡ factPlan A goal capacity stop
 
 -- Besides, the actions below a were tried at entry e, whose condition is c and whose depth is d.
-pub record AtAction (A : Actions) (goal : ℕ) (stop : ℕ → Bool) (capacity count : ℕ) (t₀ : Columns) (n₀ e c d : ℕ) (t : Columns) (n a : ℕ) : Type 0 where
+pub record AtAction (A : Actions) (goal : Condition) (stop : Condition → Bool) (capacity count : ℕ) (t₀ : Columns) (n₀ e c d : ℕ) (t : Columns) (n a : ℕ) : Type 0 where
   pub counted : count ≡ A .count
   pub holds : Holds capacity n t₀ t
   pub grown : n₀ ≤ n
@@ -56,14 +55,14 @@ pub record AtAction (A : Actions) (goal : ℕ) (stop : ℕ → Bool) (capacity c
 -- None of the first k listed conditions is a part of c.
 pub record AtListed (conditions : List ℕ) (n c k : ℕ) : Type 0 where
   pub inside : k ≤ n
-  pub passed : (i : ℕ) → i < k → T (subset (getD conditions i 0) c) → ⊥
+  pub passed : (i : ℕ) → i < k → T (weaker (getD conditions i 0) c) → ⊥
 
 -- Where the search found nothing: action a serves c, and of what it makes of c no listed condition is a part.
 pub record Wanted (A : Actions) (conditions : List ℕ) (n c a new : ℕ) : Type 0 where
   pub below : a < A .count
-  pub serves : T (relevant (A .adds a) (A .deletes a) c)
-  pub made : new ≡ regressed (A .needs a) (A .adds a) c
-  pub unlisted : (i : ℕ) → i < n → T (subset (getD conditions i 0) new) → ⊥
+  pub serves : T (relevant (A .action a) c)
+  pub made : new ≡ regressed (A .action a) c
+  pub unlisted : (i : ℕ) → i < n → T (weaker (getD conditions i 0) new) → ⊥
 
 -- ---- before the loops
 
@@ -80,8 +79,8 @@ in-rows {needs} {adds} {deletes} e =
 pub root-held : {capacity : ℕ} (goal : ℕ) (t : Columns) → capacity ≡ room t → 0 < capacity → Holds capacity 1 t (store t 0 goal 255 0 0)
 root-held goal t e h = holds-store (holds-none t e) h goal 255 0 0 (omega arith)
 
-module _ (A : Actions) (goal : ℕ) (stop : ℕ → Bool) {capacity : ℕ} (t : Columns) (e : capacity ≡ room t) where
-  abbrev D₀ : Domain ℕ ℕ ℕ
+module _ (A : Actions) (goal : Condition) (stop : Condition → Bool) {capacity : ℕ} (t : Columns) (e : capacity ≡ room t) where
+  abbrev D₀ : Domain ℕ Condition ℕ
   D₀ = unitDomain A goal
 
   pub no-room : capacity ≡ 0 → full (held t 0) ≡ factPlan A goal capacity stop
@@ -110,8 +109,8 @@ module _ (A : Actions) (goal : ℕ) (stop : ℕ → Bool) {capacity : ℕ} (t : 
 
 -- ---- the entries
 
-module _ {A : Actions} {goal : ℕ} {stop : ℕ → Bool} {capacity count : ℕ} {t₀ t : Columns} {n₀ n e : ℕ} (I : AtEntry A goal stop capacity count t₀ n₀ t n e) where
-  abbrev D₁ : Domain ℕ ℕ ℕ
+module _ {A : Actions} {goal : Condition} {stop : Condition → Bool} {capacity count : ℕ} {t₀ t : Columns} {n₀ n e : ℕ} (I : AtEntry A goal stop capacity count t₀ n₀ t n e) where
+  abbrev D₁ : Domain ℕ Condition ℕ
   D₁ = unitDomain A goal
 
   held-length : length (held t n) ≡ n
@@ -157,13 +156,13 @@ module _ {A : Actions} {goal : ℕ} {stop : ℕ → Bool} {capacity count : ℕ}
 
 -- ---- the actions at an entry
 
-module _ {A : Actions} {goal : ℕ} {stop : ℕ → Bool} {capacity count : ℕ} {t₀ t : Columns} {n₀ n e c d a : ℕ}
+module _ {A : Actions} {goal : Condition} {stop : Condition → Bool} {capacity count : ℕ} {t₀ t : Columns} {n₀ n e c d a : ℕ}
     (I : AtAction A goal stop capacity count t₀ n₀ e c d t n a) where
-  abbrev D : Domain ℕ ℕ ℕ
+  abbrev D : Domain ℕ Condition ℕ
   D = unitDomain A goal
 
   -- the entry in hand, as the definition lists it
-  abbrev it : Entry ℕ
+  abbrev it : Entry Condition
   it = entryIn D (held t n) e
 
   it-is : it ≡ entryOf t e
@@ -197,14 +196,14 @@ module _ {A : Actions} {goal : ℕ} {stop : ℕ → Bool} {capacity count : ℕ}
         }
 
     -- the action does not serve the condition
-    pub skip-irrelevant : T (not (relevant (A .adds a) (A .deletes a) c)) → AtAction A goal stop capacity count t₀ n₀ e c d t n (a + 1)
+    pub skip-irrelevant : T (not (relevant (A .action a) c)) → AtAction A goal stop capacity count t₀ n₀ e c d t n (a + 1)
     skip-irrelevant r =
         skip (unwanted-irrelevant D a it (held t n)
-        (rw its-condition-is (not-T (ltb a (A .count) && relevant (A .adds a) (A .deletes a) c)
-        (λ s. T-not (relevant (A .adds a) (A .deletes a) c) r (and-right (ltb a (A .count)) _ s)))))
+        (rw its-condition-is (not-T (ltb a (A .count) && relevant (A .action a) c)
+        (λ s. T-not (relevant (A .action a) c) r (and-right (ltb a (A .count)) _ s)))))
 
     -- a listed condition is a part of what it makes of it
-    pub skip-listed : (new : ℕ) → new ≡ regressed (A .needs a) (A .adds a) c → (k : ℕ) → k < n → T (subset (getD (t .conditions) k 0) new)
+    pub skip-listed : (new : ℕ) → new ≡ regressed (A .action a) c → (k : ℕ) → k < n → T (weaker (getD (t .conditions) k 0) new)
         → AtAction A goal stop capacity count t₀ n₀ e c d t n (a + 1)
     skip-listed new made k h s =
         skip (unwanted-listed D a it (held t n) k (omega (arith, its-length)) (rw (its-condition-is, ← made, listed-is k h) s))
@@ -269,12 +268,12 @@ module _ {A : Actions} {goal : ℕ} {stop : ℕ → Bool} {capacity count : ℕ}
 
 -- ---- the search
 
-pub pass : {conditions : List ℕ} {n c k : ℕ} → AtListed conditions n c k → (k ≡ n → ⊥) → T (not (subset (getD conditions k 0) c))
+pub pass : {conditions : List ℕ} {n c k : ℕ} → AtListed conditions n c k → (k ≡ n → ⊥) → T (not (weaker (getD conditions k 0) c))
     → AtListed conditions n c (k + 1)
 pass {conditions} {n} {c} {k} S other t =
     record {
       inside = omega (arith, S .inside);
-      passed = below-more (λ (i : ℕ). T (subset (getD conditions i 0) c) → ⊥) k (S .passed) (T-not (subset (getD conditions k 0) c) t);
+      passed = below-more (λ (i : ℕ). T (weaker (getD conditions i 0) c) → ⊥) k (S .passed) (T-not (weaker (getD conditions k 0) c) t);
     }
 
 -- a flag is not both

@@ -10,14 +10,17 @@ use native.Mathlib.Omega.{arith}
 use borrow.Author.Count.{below-more}
 use lib.ListN.{length, getD, set, take, drop, length-set, take-append-drop}
 use lib.Seq.{take-suc, getD-set-same, getD-set-other, drop-drop, drop-set-lt}
+use Rattle.refusal.specs.Checked.{accepted, andThen}
+use Rattle.conditions.specs.Condition.{Condition}
 use Rattle.planning.specs.Expansion.{Entry, entries}
 use Rattle.planning.specs.Columns.{prefix}
 use Rattle.planning.specs.ColumnLaws.{length-prefix}
 use Rattle.planning.specs.Facts.{Actions, factPlan}
 use Rattle.expander.specs.declared.Expanded.{Expanded}
-use Rattle.expander.specs.Expands.{Columns, columns, room, held, over, outcomeOf, planIn, Expands}
+use Rattle.expander.specs.declared.Until.{Until}
+use Rattle.expander.specs.Expands.{Columns, columns, room, held, over, written, endedBy, planIn, listedBy, outcomeOf, Expands}
 use Rattle.expander.specs.ExpandsLaws.{capacity-conditions, capacity-actions, capacity-parents, capacity-depths, capacity-most}
-use Rattle.expander.specs.ExpandsLaws.{stored, outcome-entries, entryOf}
+use Rattle.expander.specs.ExpandsLaws.{stored, outcome-entries, answer-listed, entryOf}
 
 -- ---- one column
 
@@ -137,25 +140,28 @@ map-prefix f g xs e zero h = refl
 map-prefix f g xs e (suc n) h = map-snoc f (prefix g n) (g n) ∙ rw (map-prefix f g xs e n (omega arith), e n, take-suc xs n 0 (omega arith))
 
 -- a column is its entries, and past them what it was
-kept-over : {capacity n : ℕ} {xs₀ xs : List ℕ} → Kept capacity n xs₀ xs → n ≤ capacity → (f : Entry ℕ → ℕ) (g : ℕ → Entry ℕ)
+kept-over : {capacity n : ℕ} {xs₀ xs : List ℕ} → Kept capacity n xs₀ xs → n ≤ capacity → (f : Entry Condition → ℕ) (g : ℕ → Entry Condition)
     → ((i : ℕ) → f (g i) ≡ getD xs i 0) → xs ≡ over f (prefix g n) xs₀
 kept-over {capacity} {n} {xs₀} {xs} k h f g e =
     rw (map-prefix f g xs e n (omega (arith, k .roomy)), length-prefix g n, ← k .rest) (sym (take-append-drop n xs))
 
-holds-expands : {A : Actions} {goal : ℕ} {stop : ℕ → Bool} {t₀ t : Columns} (r : Expanded) → Holds (room t₀) (stored r) t₀ t
-    → outcomeOf r t ≡ planIn t₀ A goal stop → Expands A goal stop t₀ t r
-holds-expands {A} {goal} {stop} {t₀} {t} r H e =
-    let list : entries (planIn t₀ A goal stop) ≡ held t (stored r) = sym (ap entries e) ∙ outcome-entries r t in
-    record {
-      outcome = e;
-      conditions = rw list (kept-over (H .conditions) (H .fits) (λ x. x .condition) (entryOf t) (λ i. refl));
-      actions = rw list (kept-over (H .actions) (H .fits) (λ x. x .action) (entryOf t) (λ i. refl));
-      parents = rw list (kept-over (H .parents) (H .fits) (λ x. x .parent) (entryOf t) (λ i. refl));
-      depths = rw list (kept-over (H .depths) (H .fits) (λ x. x .depth) (entryOf t) (λ i. refl));
-    }
+same-columns : {c c′ a a′ p p′ d d′ : List ℕ} → c ≡ c′ → a ≡ a′ → p ≡ p′ → d ≡ d′ → columns c a p d ≡ columns c′ a′ p′ d′
+same-columns e f g h = rw (e, f, g, h)
+
+holds-written : {capacity n : ℕ} {t₀ t : Columns} → Holds capacity n t₀ t → t ≡ written (held t n) t₀
+holds-written {capacity} {n} {t₀} {t} H =
+    same-columns (kept-over (H .conditions) (H .fits) (λ x. x .condition) (entryOf t) (λ i. refl))
+    (kept-over (H .actions) (H .fits) (λ x. x .action) (entryOf t) (λ i. refl))
+    (kept-over (H .parents) (H .fits) (λ x. x .parent) (entryOf t) (λ i. refl))
+    (kept-over (H .depths) (H .fits) (λ x. x .depth) (entryOf t) (λ i. refl))
 
 -- the tables hold the entries of the answer, and its outcome is the plan's
-pub expands : {A : Actions} {goal : ℕ} {stop : ℕ → Bool} {capacity : ℕ} {t₀ t : Columns} → capacity ≡ room t₀ → (r : Expanded) → Holds capacity (stored r) t₀ t
-    → outcomeOf r t ≡ factPlan A goal capacity stop → Expands A goal stop t₀ t r
-expands {A} {goal} {stop} {capacity} {t₀} {t} e r H o =
-    holds-expands r (subst (λ (m : ℕ). Holds m (stored r) t₀ t) e H) (o ∙ ap (λ (m : ℕ). factPlan A goal m stop) e)
+pub expands : {A : Actions} {goal : Condition} {until : Until} {capacity : ℕ} {t₀ t : Columns} → capacity ≡ room t₀ → (r : Expanded)
+    → Holds capacity (stored r) t₀ t → outcomeOf r t ≡ factPlan A goal capacity (endedBy until) → Expands A goal until t₀ t r
+expands {A} {goal} {until} {capacity} {t₀} {t} e r H o =
+    let plan : outcomeOf r t ≡ planIn t₀ A goal until = o ∙ ap (λ (m : ℕ). factPlan A goal m (endedBy until)) e in
+    record {
+      answer = answer-listed until r t ∙ ap (λ x. andThen (listedBy until x) (λ l. accepted (length l))) plan;
+      outcome = plan;
+      tables = holds-written H ∙ ap (λ (l : List (Entry Condition)). written l t₀) (sym (outcome-entries r t) ∙ ap entries plan);
+    }

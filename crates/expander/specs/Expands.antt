@@ -5,14 +5,15 @@ use mathlib.Core.Bool.{Bool, false}
 use mathlib.Core.List.{List, _++_, map}
 use Prim.Native.Nat.{ℕ, min}
 use lib.ListN.{length, getD, drop}
-use Rattle.masks.specs.Sets.{subset}
+use Rattle.refusal.specs.Checked.{Checked, accepted, refused, andThen}
+use Rattle.conditions.specs.Condition.{Condition, satisfied, actionAt}
 use Rattle.planning.specs.Expansion.{Entry, Outcome, exhausted, covered, full, entries}
 use Rattle.planning.specs.Columns.{entriesOf}
 use Rattle.planning.specs.Facts.{Actions, factPlan}
 use Rattle.expander.specs.declared.Expanded.{Expanded}
 use Rattle.expander.specs.declared.Expanded.the-variants as X
-use Rattle.expander.specs.declared.Stop.{Stop}
-use Rattle.expander.specs.declared.Stop.the-variants as S
+use Rattle.expander.specs.declared.Until.{Until}
+use Rattle.expander.specs.declared.Until.the-variants as U
 
 -- ---- the actions, in three rows of masks
 
@@ -22,12 +23,7 @@ countOf needs adds deletes = min (min (min needs adds) deletes) 128
 
 abbrev pub actionsOf : List ℕ → List ℕ → List ℕ → Actions
 actionsOf needs adds deletes =
-    record {
-      count = countOf (length needs) (length adds) (length deletes);
-      needs = λ a. getD needs a 0;
-      adds = λ a. getD adds a 0;
-      deletes = λ a. getD deletes a 0;
-    }
+    record { count = countOf (length needs) (length adds) (length deletes); action = actionAt needs adds deletes }
 
 -- ---- the lent list tables, as the four columns of a list of entries
 
@@ -49,37 +45,56 @@ abbrev pub room : Columns → ℕ
 room t = capacityOf (length (t .conditions)) (length (t .actions)) (length (t .parents)) (length (t .depths))
 
 -- the first n entries that the tables hold
-abbrev pub held : Columns → ℕ → List (Entry ℕ)
+abbrev pub held : Columns → ℕ → List (Entry Condition)
 held t n = entriesOf (t .conditions) (t .actions) (t .parents) (t .depths) n
 
 -- a column with the list written to its front: past the list it is as it was
-abbrev pub over : (Entry ℕ → ℕ) → List (Entry ℕ) → List ℕ → List ℕ
+abbrev pub over : (Entry Condition → ℕ) → List (Entry Condition) → List ℕ → List ℕ
 over field l xs = map field l ++ drop (length l) xs
+
+-- the tables with the list written to their fronts: "the list tables hold the entries stored, all else untouched"
+abbrev pub written : List (Entry Condition) → Columns → Columns
+written l t =
+    columns (over (λ x. x .condition) l (t .conditions)) (over (λ x. x .action) l (t .actions)) (over (λ x. x .parent) l (t .parents))
+    (over (λ x. x .depth) l (t .depths))
 
 -- ---- what ends the list
 
 -- "The list stops at the first entry, 0 included, whose condition is part of the start"; or, document 02, W2, it "takes no start and stops only
 -- when all entries are expanded or number 10 arises"
-abbrev pub endedBy : Stop → ℕ → Bool
-endedBy (S.PartOf start) = λ c. subset c start
-endedBy S.Never = λ c. false
+abbrev pub endedBy : Until → Condition → Bool
+endedBy (U.Covers start) = λ c. satisfied c start
+endedBy U.Never = λ c. false
+
+-- the plan of the actions for a goal, as far as the tables have room
+abbrev pub planIn : Columns → Actions → Condition → Until → Outcome Condition
+planIn t A goal until = factPlan A goal (room t) (endedBy until)
 
 -- ---- the answer
 
+-- the papers' numbers. 10: "List full: a condition to be stored would exceed the capacity." 11: "No way: every entry is expanded and none is part
+-- of the start"; without a start "Number 11 does not arise". "The place is .. the entries stored for 10 to 12."
+abbrev pub expandedOf : Until → Expanded → Checked ℕ
+expandedOf until (X.Full n) = refused 10 n
+expandedOf (U.Covers start) (X.Exhausted n) = refused 11 n
+expandedOf U.Never (X.Exhausted n) = accepted n
+expandedOf until (X.Covered n) = accepted n
+
+-- the same of an outcome: its list, where that is what was asked for
+abbrev pub listedBy : Until → Outcome Condition → Checked (List (Entry Condition))
+listedBy until (full l) = refused 10 (length l)
+listedBy (U.Covers start) (exhausted l) = refused 11 (length l)
+listedBy U.Never (exhausted l) = accepted l
+listedBy until (covered l) = accepted l
+
 -- what an answer says, of the entries that the tables then hold
-abbrev pub outcomeOf : Expanded → Columns → Outcome ℕ
+abbrev pub outcomeOf : Expanded → Columns → Outcome Condition
 outcomeOf (X.Exhausted n) t = exhausted (held t n)
 outcomeOf (X.Covered n) t = covered (held t n)
 outcomeOf (X.Full n) t = full (held t n)
 
--- the plan that a stop ends, as far as the tables have room
-abbrev pub planIn : Columns → Actions → ℕ → (ℕ → Bool) → Outcome ℕ
-planIn t A goal stop = factPlan A goal (room t) stop
-
--- The answer is the plan's, and "the list tables hold the entries stored, all else untouched".
-pub record Expands (A : Actions) (goal : ℕ) (stop : ℕ → Bool) (before after : Columns) (r : Expanded) : Type 0 where
-  pub outcome : outcomeOf r after ≡ planIn before A goal stop
-  pub conditions : after .conditions ≡ over (λ x. x .condition) (entries (planIn before A goal stop)) (before .conditions)
-  pub actions : after .actions ≡ over (λ x. x .action) (entries (planIn before A goal stop)) (before .actions)
-  pub parents : after .parents ≡ over (λ x. x .parent) (entries (planIn before A goal stop)) (before .parents)
-  pub depths : after .depths ≡ over (λ x. x .depth) (entries (planIn before A goal stop)) (before .depths)
+-- The answer is the plan's, by its number and by its list, and the tables hold the entries stored.
+pub record Expands (A : Actions) (goal : Condition) (until : Until) (before after : Columns) (r : Expanded) : Type 0 where
+  pub answer : expandedOf until r ≡ andThen (listedBy until (planIn before A goal until)) (λ l. accepted (length l))
+  pub outcome : outcomeOf r after ≡ planIn before A goal until
+  pub tables : after ≡ written (entries (planIn before A goal until)) before

@@ -7,7 +7,9 @@ use Prim.Native.Nat.{ℕ, suc, _≤_, _<_}
 use native.Mathlib.Omega.{arith}
 use lib.Dec.{T}
 use lib.ListN.{length, getD}
-use Rattle.masks.specs.Sets.{subset, within}
+use Rattle.masks.specs.Sets.{within}
+use Rattle.refusal.specs.Checked.{accepted, andThen}
+use Rattle.conditions.specs.Condition.{Condition}
 use Rattle.planning.specs.Domain.{Domain}
 use Rattle.planning.specs.Sequence.{Reaches}
 use Rattle.planning.specs.Listing.{Derived}
@@ -22,7 +24,9 @@ use Rattle.planning.specs.Facts.{Actions, unitDomain, WithinFacts}
 use Rattle.planning.specs.FactLaws.{fact-plannable, fact-start-first, fact-no-way, condition-within}
 use Rattle.expander.specs.declared.Expanded.{Expanded}
 use Rattle.expander.specs.declared.Expanded.the-variants as X
-use Rattle.expander.specs.Expands.{countOf, Columns, capacityOf, room, held, outcomeOf, planIn, Expands}
+use Rattle.expander.specs.declared.Until.{Until}
+use Rattle.expander.specs.declared.Until.the-variants as U
+use Rattle.expander.specs.Expands.{countOf, Columns, capacityOf, room, held, endedBy, planIn, expandedOf, listedBy, outcomeOf, Expands}
 
 -- ---- the number of actions, and the capacity
 
@@ -83,33 +87,43 @@ outcome-entries (X.Covered n) t = refl
 outcome-entries (X.Full n) t = refl
 
 -- the answer of an outcome: with it the contract says outright what the result is
-abbrev pub answerOf : Outcome ℕ → Expanded
+abbrev pub answerOf : Outcome Condition → Expanded
 answerOf (exhausted l) = X.Exhausted (length l)
 answerOf (covered l) = X.Covered (length l)
 answerOf (full l) = X.Full (length l)
 
 -- entry i, as the tables hold it
-abbrev pub entryOf : Columns → ℕ → Entry ℕ
+abbrev pub entryOf : Columns → ℕ → Entry Condition
 entryOf t i = entryAt (t .conditions) (t .actions) (t .parents) (t .depths) i
 
 pub held-length : (t : Columns) (n : ℕ) → length (held t n) ≡ n
 held-length t n = length-prefix (entryOf t) n
+
+-- the papers' number of an answer is that of the list that the tables then hold
+pub answer-listed : (until : Until) (r : Expanded) (t : Columns)
+    → expandedOf until r ≡ andThen (listedBy until (outcomeOf r t)) (λ l. accepted (length l))
+answer-listed (U.Covers start) (X.Exhausted n) t = rw (held-length t n)
+answer-listed U.Never (X.Exhausted n) t = rw (held-length t n)
+answer-listed (U.Covers start) (X.Covered n) t = rw (held-length t n)
+answer-listed U.Never (X.Covered n) t = rw (held-length t n)
+answer-listed (U.Covers start) (X.Full n) t = rw (held-length t n)
+answer-listed U.Never (X.Full n) t = rw (held-length t n)
 
 outcome-answer : (r : Expanded) (t : Columns) → answerOf (outcomeOf r t) ≡ r
 outcome-answer (X.Exhausted n) t = ap X.Exhausted (held-length t n)
 outcome-answer (X.Covered n) t = ap X.Covered (held-length t n)
 outcome-answer (X.Full n) t = ap X.Full (held-length t n)
 
-module _ {A : Actions} {goal : ℕ} {stop : ℕ → Bool} {before after : Columns} {r : Expanded} (E : Expands A goal stop before after r) where
-  abbrev list : List (Entry ℕ)
-  list = entries (planIn before A goal stop)
+module _ {A : Actions} {goal : Condition} {until : Until} {before after : Columns} {r : Expanded} (E : Expands A goal until before after r) where
+  abbrev list : List (Entry Condition)
+  list = entries (planIn before A goal until)
 
-  abbrev D : Domain ℕ ℕ ℕ
+  abbrev D : Domain ℕ Condition ℕ
   D = unitDomain A goal
 
   -- ---- the answer and the entries
 
-  pub answer-is : r ≡ answerOf (planIn before A goal stop)
+  pub answer-is : r ≡ answerOf (planIn before A goal until)
   answer-is = sym (outcome-answer r after) ∙ ap answerOf (E .outcome)
 
   -- the entries read back from the tables are the list of the plan
@@ -120,12 +134,12 @@ module _ {A : Actions} {goal : ℕ} {stop : ℕ → Bool} {before after : Column
   list-length = ap length (sym list-held) ∙ held-length after (stored r)
 
   pub entry-held : (i : ℕ) → i < stored r → entryOf after i ≡ entryIn D list i
-  entry-held i h = sym (getD-prefix (entryOf after) (stored r) i _ h) ∙ ap (λ (l : List (Entry ℕ)). entryIn D l i) list-held
+  entry-held i h = sym (getD-prefix (entryOf after) (stored r) i _ h) ∙ ap (λ (l : List (Entry Condition)). entryIn D l i) list-held
 
   -- ---- how many there are
 
   pub stored-fits : stored r ≤ room before
-  stored-fits = omega (arith, planned-fits (fact-plannable A goal) (room before) stop, list-length)
+  stored-fits = omega (arith, planned-fits (fact-plannable A goal) (room before) (endedBy until), list-length)
 
   pub stored-small : stored r ≤ 4096
   stored-small =
@@ -137,7 +151,7 @@ module _ {A : Actions} {goal : ℕ} {stop : ℕ → Bool} {before after : Column
   pub stored-goal : 0 < stored r → getD (after .conditions) 0 0 ≡ goal
   stored-goal h =
       ap (λ x. x .condition) (entry-held 0 h)
-      ∙ planned-good (fact-plannable A goal) (room before) stop (omega (arith, list-length)) .goal-first
+      ∙ planned-good (fact-plannable A goal) (room before) (endedBy until) (omega (arith, list-length)) .goal-first
 
   module _ (i : ℕ) (h : i < stored r) where
     inside : i < length list
@@ -146,50 +160,50 @@ module _ {A : Actions} {goal : ℕ} {stop : ℕ → Bool} {before after : Column
     pub stored-depth : getD (after .depths) i 0 ≤ i
     stored-depth =
         let e = ap (λ x. x .depth) (entry-held i h) in
-        omega (arith, e, planned-depth (fact-plannable A goal) (room before) stop i inside)
+        omega (arith, e, planned-depth (fact-plannable A goal) (room before) (endedBy until) i inside)
 
     -- the conditions are sets of the table's facts
     pub stored-within : (f : ℕ) → WithinFacts f A goal → T (within f (getD (after .conditions) i 0))
-    stored-within f W = rw (ap (λ x. x .condition) (entry-held i h)) (condition-within A goal (room before) stop f W i inside)
+    stored-within f W = rw (ap (λ x. x .condition) (entry-held i h)) (condition-within A goal (room before) (endedBy until) f W i inside)
 
     module _ (later : 0 < i) where
       pub stored-derived : Derived D (listing D list) i
-      stored-derived = planned-good (fact-plannable A goal) (room before) stop (omega (arith, inside)) .derived i later inside
+      stored-derived = planned-good (fact-plannable A goal) (room before) (endedBy until) (omega (arith, inside)) .derived i later inside
 
       pub stored-action : getD (after .actions) i 0 < A .count
       stored-action =
-          rw (ap (λ x. x .action) (entry-held i h)) (planned-action (fact-plannable A goal) (room before) stop i later inside)
+          rw (ap (λ x. x .action) (entry-held i h)) (planned-action (fact-plannable A goal) (room before) (endedBy until) i later inside)
 
       pub stored-parent : getD (after .parents) i 0 < i
       stored-parent = rw (ap (λ x. x .parent) (entry-held i h)) (stored-derived .parent-before)
 
 -- ---- what each answer says
 
-module _ {A : Actions} {goal start : ℕ} {before after : Columns} {n : ℕ} where
+module _ {A : Actions} {goal : Condition} {start : ℕ} {before after : Columns} {n : ℕ} where
   -- the last entry is the first one that the start meets
-  pub covered-first : Expands A goal (λ c. subset c start) before after (X.Covered n)
+  pub covered-first : Expands A goal (U.Covers start) before after (X.Covered n)
       → (i : ℕ) × (n ≡ suc i) × FirstIn (unitDomain A goal) (held after n) start i
   covered-first E =
       let f = fact-start-first A goal (room before) start (held after n) (sym (E .outcome)) in
       (f .0, omega (arith, f .1, held-length after n), f .2)
 
   -- "No way": no sequence of actions leads from the start to the goal
-  pub exhausted-no-way : Expands A goal (λ c. subset c start) before after (X.Exhausted n) → (w : List ℕ) → Reaches (unitDomain A goal) start w → ⊥
+  pub exhausted-no-way : Expands A goal (U.Covers start) before after (X.Exhausted n) → (w : List ℕ) → Reaches (unitDomain A goal) start w → ⊥
   exhausted-no-way E = fact-no-way A goal (room before) start (held after n) (sym (E .outcome))
 
-module _ {A : Actions} {goal : ℕ} {stop : ℕ → Bool} {before after : Columns} {n : ℕ} where
+module _ {A : Actions} {goal : Condition} {until : Until} {before after : Columns} {n : ℕ} where
   -- "List full": there are as many entries as the capacity
-  pub full-capacity : Expands A goal stop before after (X.Full n) → n ≡ room before
+  pub full-capacity : Expands A goal until before after (X.Full n) → n ≡ room before
   full-capacity E =
       let P = fact-plannable A goal in
-      let known : Sound (unitDomain A goal) (room before) stop (entryIn (unitDomain A goal) (held after n)) (full (held after n)) =
-      subst (λ (o : Outcome ℕ). Sound (unitDomain A goal) (room before) stop (entryIn (unitDomain A goal) (entries o)) o) (sym (E .outcome))
-      (expand-sound (unitDomain A goal) (A .count) (room before) stop (P .unit-cost) (P .laws .weaker-refl) (P .below-count)) in
+      let known : Sound (unitDomain A goal) (room before) (endedBy until) (entryIn (unitDomain A goal) (held after n)) (full (held after n)) =
+      subst (λ (o : Outcome Condition). Sound (unitDomain A goal) (room before) (endedBy until) (entryIn (unitDomain A goal) (entries o)) o) (sym (E .outcome))
+      (expand-sound (unitDomain A goal) (A .count) (room before) (endedBy until) (P .unit-cost) (P .weaker-refl) (P .below-count)) in
       omega (arith, known .size, held-length after n)
 
   -- a list that ended otherwise has an entry
-  pub exhausted-some : Expands A goal stop before after (X.Exhausted n) → 1 ≤ n
-  exhausted-some E = omega (arith, exhausted-nonempty (fact-plannable A goal) (room before) stop (held after n) (sym (E .outcome)), held-length after n)
+  pub exhausted-some : Expands A goal until before after (X.Exhausted n) → 1 ≤ n
+  exhausted-some E = omega (arith, exhausted-nonempty (fact-plannable A goal) (room before) (endedBy until) (held after n) (sym (E .outcome)), held-length after n)
 
-  pub covered-some : Expands A goal stop before after (X.Covered n) → 1 ≤ n
-  covered-some E = omega (arith, covered-nonempty (fact-plannable A goal) (room before) stop (held after n) (sym (E .outcome)), held-length after n)
+  pub covered-some : Expands A goal until before after (X.Covered n) → 1 ≤ n
+  covered-some E = omega (arith, covered-nonempty (fact-plannable A goal) (room before) (endedBy until) (held after n) (sym (E .outcome)), held-length after n)

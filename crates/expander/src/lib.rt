@@ -2,29 +2,32 @@
 // masks and four lent list tables. An action is document 01's job.
 ghost use mathlib.Core.Path.{_≡_};
 ghost use Prim.Native.Nat.{min};
-ghost use Rattle.masks.specs.Effects.{relevant, regressed};
 ghost use Rattle.expander.specs.Expands.{countOf, actionsOf, columns, capacityOf, endedBy, Expands};
 
 // What ends the list, besides its capacity.
-pub enum Stop {
-    // A condition that is part of this start.
-    PartOf(u64),
+pub enum Until {
+    // A condition that this start meets.
+    Covers(u64),
     // Nothing: every entry is expanded (document 02, W2).
     Never,
 }
 
-// How the list ended, with the number of entries stored.
+// How the list ended, with the number of entries stored. `expandedOf` gives the papers' numbers.
 pub enum Expanded {
-    // Every entry is expanded and none ended the list: where there is a start, document 01's no way, number 11.
+    // Every entry is expanded, and none ended the list.
     Exhausted(usize),
-    // The last entry ended it: it is part of the start.
+    // The last entry ended it: the start meets it.
     Covered(usize),
-    // One more entry would exceed the capacity: number 10.
+    // One more entry would exceed the capacity.
     Full(usize),
 }
 
 // Stored as the action of entry 0, which has none.
 pub const NO_ACTION: u8 = 255;
+
+const MAX_ENTRIES: usize = 4_096;
+
+const MAX_ACTIONS: usize = 128;
 
 fn lesser(a: usize, b: usize) -> usize
     ensures { λ r. ⌜ r ≡ min a b ⌝ }
@@ -37,37 +40,23 @@ fn capacity_of(conditions: usize, actions: usize, parents: usize, depths: usize)
     ensures { λ r. ⌜ r ≡ capacityOf conditions actions parents depths ⌝ }
 {
     let shortest = lesser(lesser(conditions, actions), lesser(parents, depths));
-    lesser(shortest, 4_096)
+    lesser(shortest, MAX_ENTRIES)
 }
 
 // How many actions the rows hold, by their lengths.
 fn count_of(needs: usize, adds: usize, deletes: usize) -> usize
     ensures { λ r. ⌜ r ≡ countOf needs adds deletes ⌝ }
 {
-    lesser(lesser(lesser(needs, adds), deletes), 128)
-}
-
-// Does the action serve the condition: add a fact of it, and delete none?
-fn is_relevant(adds: u64, deletes: u64, condition: u64) -> bool
-    ensures { λ r. ⌜ r ≡ relevant adds deletes condition ⌝ }
-{
-    masks::share_fact(adds, condition) && !masks::share_fact(deletes, condition)
-}
-
-// What must hold before the action, for the condition to hold after it.
-fn regress(needs: u64, adds: u64, condition: u64) -> u64
-    ensures { λ r. ⌜ r ≡ regressed needs adds condition ⌝ }
-{
-    masks::join(needs, masks::without(condition, adds))
+    lesser(lesser(lesser(needs, adds), deletes), MAX_ACTIONS)
 }
 
 // Does a listed condition end the list?
-fn ends_list(stop: Stop, condition: u64) -> bool
-    ensures { λ r. ⌜ r ≡ endedBy stop condition ⌝ }
+fn ends_list(until: Until, condition: u64) -> bool
+    ensures { λ r. ⌜ r ≡ endedBy until condition ⌝ }
 {
-    match stop {
-        Stop::PartOf(start) => masks::is_subset(condition, start),
-        Stop::Never => false,
+    match until {
+        Until::Covers(start) => conditions::is_satisfied(condition, start),
+        Until::Never => false,
     }
 }
 
@@ -78,13 +67,13 @@ pub fn expand(
     adds: &[u64],
     deletes: &[u64],
     goal: u64,
-    stop: Stop,
+    until: Until,
     conditions: &mut [u64],
     actions: &mut [u8],
     parents: &mut [u16],
     depths: &mut [u16],
 ) -> Expanded
-    ensures { λ r. ⌜ Expands (actionsOf (now (needs .entry)) (now (adds .entry)) (now (deletes .entry))) goal (endedBy stop)
+    ensures { λ r. ⌜ Expands (actionsOf (now (needs .entry)) (now (adds .entry)) (now (deletes .entry))) goal until
         (columns (now (conditions .entry)) (now (actions .entry)) (now (parents .entry)) (now (depths .entry)))
         (columns (now (conditions .exit)) (now (actions .exit)) (now (parents .exit)) (now (depths .exit))) r ⌝ }
 {
@@ -96,7 +85,7 @@ pub fn expand(
     actions[0] = NO_ACTION;
     parents[0] = 0;
     depths[0] = 0;
-    if ends_list(stop, goal) {
+    if ends_list(until, goal) {
         return Expanded::Covered(1);
     }
     let count = count_of(needs.len(), adds.len(), deletes.len());
@@ -113,14 +102,15 @@ pub fn expand(
         'actions: while next < count {
             let a = next;
             next += 1;
-            if is_relevant(adds[a], deletes[a], condition) {
-                let new = regress(needs[a], adds[a], condition);
+            let action = conditions::action_at(needs, adds, deletes, a);
+            if conditions::is_relevant(action, condition) {
+                let new = conditions::regress(action, condition);
                 let mut k: usize = 0;
                 let found = 'search: loop {
                     if k == n {
                         break false;
                     }
-                    if masks::is_subset(conditions[k], new) {
+                    if conditions::is_weaker(conditions[k], new) {
                         break true;
                     }
                     k += 1;
@@ -134,7 +124,7 @@ pub fn expand(
                     parents[n] = e as u16;
                     depths[n] = depth + 1;
                     n += 1;
-                    if ends_list(stop, new) {
+                    if ends_list(until, new) {
                         break 'entries Expanded::Covered(n);
                     }
                 }

@@ -9,11 +9,11 @@ use native.Mathlib.Nat.{not-suc-le-zero}
 use native.Mathlib.Omega.{arith}
 use lib.Dec.{T, not-T}
 use lib.ListN.{length}
-use Rattle.planning.specs.Domain.{Domain, Plannable}
+use Rattle.planning.specs.Domain.{Domain, Laws, Plannable}
 use Rattle.planning.specs.Sequence.{Answer, running, total, Reaches}
 use Rattle.planning.specs.Listing.{path, answerAt, Good, Fresh, Optimal}
 use Rattle.planning.specs.Logic.{choice-true, choice-false}
-use Rattle.planning.specs.Theory.{run-transfer, first-met, no-dead-line, by-parents, all-conditions, path-exact, complete, best}
+use Rattle.planning.specs.Theory.{run-transfer, first-met, irredundant-entry, by-parents, all-conditions, path-exact, complete, best}
 use Rattle.planning.specs.Expansion.{Entry, Outcome, exhausted, covered, full, entries, entryIn, expand, listing}
 use Rattle.planning.specs.Progress.{Progress, Sound}
 use Rattle.planning.specs.ProgressLaws.{exhausted-closed, entry-closed}
@@ -52,9 +52,8 @@ module _ {State Condition : Type 0} (D : Domain State Condition ℕ) where
         entry = f .entry;
         first = f .first;
         run = run-transfer D Kind kept tick tick′ alike s k (path (listing D l) (f .entry)) (f .run);
-        reaches = f .reaches;
+        shortest = f .shortest;
         exact = f .exact;
-        least = f .least;
       }
 
 module _ {State Condition : Type 0} {D : Domain State Condition ℕ} {count : ℕ} (H : Plannable D count) (capacity : ℕ) (stop : Condition → Bool) where
@@ -79,26 +78,29 @@ module _ {State Condition : Type 0} {D : Domain State Condition ℕ} {count : �
   known-progress (covered l) k h = let m = k .midway in (m .in-hand, m .tried, m .progress)
   known-progress (full l) k h = let m = k .midway h in (m .in-hand, m .tried, m .progress)
 
-  known-best : (o : Outcome Condition) → Known o → (s : State) (i : ℕ) → FirstIn D (entries o) s i
+  known-best : Laws D → (o : Outcome Condition) → Known o → (s : State) (i : ℕ) → FirstIn D (entries o) s i
       → Optimal D (listing D (entries o)) (tickList D (entries o)) s i
-  known-best o k s i f =
+  known-best laws o k s i f =
       let l = entries o in
       let p = known-progress o k (omega (arith, f .inside)) .2 in
-      best D (listing D l) (length l) (p .good) (H .laws) (tickList D l) (tick-first D l) s i f (listing D l .cost i) (omega arith)
+      best D (listing D l) (length l) (p .good) laws (tickList D l) (tick-first D l) s i f (listing D l .cost i) (omega arith)
       (entry-closed D (listing D l) p (H .unit-cost) i (f .inside))
 
-  known-fewest : (o : Outcome Condition) → Known o → (s : State) → CoveredBy D (entries o) s → Fewest D (tickList D (entries o)) (entries o) s
-  known-fewest o k s c =
+  known-fewest : Laws D → (o : Outcome Condition) → Known o → (s : State) → CoveredBy D (entries o) s → Fewest D (tickList D (entries o)) (entries o) s
+  known-fewest laws o k s c =
       let l = entries o in
       let f = first-met D (listing D l) (length l) s c in
-      let b = known-best o k s (f .0) (f .1) in
+      let b = known-best laws o k s (f .0) (f .1) in
       record {
         entry = f .0;
         first = f .1;
         run = b .run;
-        reaches = b .reaches;
+        shortest =
+            record {
+              reaches = b .shortest .reaches;
+              least = λ v r. omega (arith, b .shortest .least v r, total-length v, total-length (path (listing D l) (f .0)));
+            };
         exact = sym (total-length (path (listing D l) (f .0))) ∙ b .exact;
-        least = λ w r. omega (arith, b .least w r, total-length w);
       }
 
   -- ---- whatever the expansion gives
@@ -107,11 +109,11 @@ module _ {State Condition : Type 0} {D : Domain State Condition ℕ} {count : �
   planned = expand D count capacity stop
 
   known : Known planned
-  known = expand-sound D count capacity stop (H .unit-cost) (H .laws .weaker-refl) (H .below-count)
+  known = expand-sound D count capacity stop (H .unit-cost) (H .weaker-refl) (H .below-count)
 
   -- demand 3: from each covered state the run reaches the goal, and no sequence has fewer actions
-  pub fewest : (s : State) → CoveredBy D (entries planned) s → Fewest D (tickList D (entries planned)) (entries planned) s
-  fewest = known-fewest planned known
+  pub fewest : Laws D → (s : State) → CoveredBy D (entries planned) s → Fewest D (tickList D (entries planned)) (entries planned) s
+  fewest laws = known-fewest laws planned known
 
   pub planned-fits : length (entries planned) ≤ capacity
   planned-fits = known-fits planned known
@@ -146,11 +148,17 @@ module _ {State Condition : Type 0} {D : Domain State Condition ℕ} {count : �
   planned-condition Q base step i h =
       all-conditions D (listing D (entries planned)) (length (entries planned)) (planned-good (omega arith)) Q base step i h
 
-  -- each entry is the first one met in some state, where a state can have just a condition
-  pub no-dead-lines : (state : Condition → State) → ((c : Condition) → T (D .satisfies (state c) c))
-      → ((c d : Condition) → T (D .satisfies (state c) d) → T (D .weaker d c))
-      → (i : ℕ) → i < length (entries planned) → FirstIn D (entries planned) (state (entryIn D (entries planned) i .condition)) i
-  no-dead-lines = no-dead-line D (listing D (entries planned)) (length (entries planned)) planned-fresh
+  -- each condition is satisfiable, where the goal is
+  pub planned-satisfiable : T (D .satisfiable (D .goal)) → (i : ℕ) → i < length (entries planned) → T (D .satisfiable (entryIn D (entries planned) i .condition))
+  planned-satisfiable base zero h = rw (planned-good h .goal-first) base
+  planned-satisfiable base (suc i) h = planned-good (omega arith) .derived (suc i) (omega arith) h .condition-satisfiable
+
+  -- an entry is the first one met in a state that meets its condition, and of the earlier ones only parts of it
+  pub irredundant : (i : ℕ) → i < length (entries planned) → (s : State) → T (D .satisfies s (entryIn D (entries planned) i .condition))
+      → ((k : ℕ) → k < i → T (D .satisfies s (entryIn D (entries planned) k .condition))
+      → T (D .weaker (entryIn D (entries planned) k .condition) (entryIn D (entries planned) i .condition)))
+      → FirstIn D (entries planned) s i
+  irredundant = irredundant-entry D (listing D (entries planned)) (length (entries planned)) planned-fresh
 
   -- a list that ended has an entry
   pub covered-nonempty : (l : List (Entry Condition)) → planned ≡ covered l → 0 < length l
@@ -179,23 +187,30 @@ module _ {State Condition : Type 0} {D : Domain State Condition ℕ} {count : �
     exhausted-nonempty = known-exhausted .progress .good .nonempty
 
     -- each state from which a sequence reaches the goal is covered
-    pub covers-all : (s : State) (w : List ℕ) → Reaches D s w → CoveredBy D l s
-    covers-all =
+    pub covers-all : Laws D → (s : State) (w : List ℕ) → Reaches D s w → CoveredBy D l s
+    covers-all laws =
         let p = known-exhausted .progress in
-        complete D (listing D l) (length l) (p .good) (H .laws) (exhausted-closed D (listing D l) p (H .unit-cost) refl)
+        complete D (listing D l) (length l) (p .good) laws (exhausted-closed D (listing D l) p (H .unit-cost) refl)
 
     -- document 01's no way: nothing reaches the goal from a start whose conditions the stop looks for
-    pub no-way : (start : State) → ((c : Condition) → T (D .satisfies start c) → T (stop c)) → (w : List ℕ) → Reaches D start w → ⊥
-    no-way start asks w r = let c = covers-all start w r in known-exhausted .unended (c .at) (c .inside) (asks _ (c .met))
+    pub no-way : Laws D → (start : State) → ((c : Condition) → T (D .satisfies start c) → T (stop c)) → (w : List ℕ) → Reaches D start w → ⊥
+    no-way laws start asks w r = let c = covers-all laws start w r in known-exhausted .unended (c .at) (c .inside) (asks _ (c .met))
 
     -- covered is the same as having a way
-    pub covered-iff : (s : State) → CoveredBy D l s ↔ ((w : List ℕ) × Reaches D s w)
-    covered-iff s =
-        ((λ c. let f = known-fewest (exhausted l) known-exhausted s c in (path (listing D l) (f .entry), f .reaches)), (λ r. covers-all s (r .0) (r .1)))
+    pub covered-iff : Laws D → (s : State) → CoveredBy D l s ↔ ((w : List ℕ) × Reaches D s w)
+    covered-iff laws s =
+        ((λ c. let f = known-fewest laws (exhausted l) known-exhausted s c in (path (listing D l) (f .entry), f .shortest .reaches)), (λ r. covers-all laws s (r .0) (r .1)))
 
     -- a number of actions that is reached and least is the depth of the first entry met
-    pub distance : (s : State) (i : ℕ) → FirstIn D l s i → (d : ℕ) (w : List ℕ) → Reaches D s w → length w ≡ d
+    pub distance : Laws D → (s : State) (i : ℕ) → FirstIn D l s i → (d : ℕ) (w : List ℕ) → Reaches D s w → length w ≡ d
         → ((v : List ℕ) → Reaches D s v → d ≤ length v) → d ≡ entryIn D l i .depth
-    distance s i f d w r wd least =
-        let b = known-best (exhausted l) known-exhausted s i f in
-        omega (arith, b .least w r, total-length w, least (path (listing D l) i) (b .reaches), total-length (path (listing D l) i), b .exact)
+    distance laws s i f d w r wd least =
+        let b = known-best laws (exhausted l) known-exhausted s i f in
+        omega (
+          arith,
+          b .shortest .least w r,
+          total-length w,
+          least (path (listing D l) i) (b .shortest .reaches),
+          total-length (path (listing D l) i),
+          b .exact,
+        )

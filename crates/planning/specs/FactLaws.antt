@@ -8,83 +8,90 @@ use Prim.Native.Nat.{ℕ, suc, _≤_, _<_}
 use lib.Dec.{T, T-not, not-T, ltb, ltb→lt}
 use lib.ListN.{length}
 use Rattle.base.specs.Bools.{and-intro, and-left, and-right}
-use Rattle.masks.specs.Sets.{subset, within}
-use Rattle.masks.specs.Laws.{subset-refl, subset-trans}
-use Rattle.masks.specs.Effects.{relevant, irrelevant-kept, regressed-held, regressed-applicable, relevant-achieves, applied-within, regressed-within}
+use Rattle.masks.specs.Sets.{within}
+use Rattle.conditions.specs.declared.Action.{Action}
+use Rattle.conditions.specs.Condition.{Condition, satisfied, relevant}
+use Rattle.conditions.specs.ConditionLaws.{weaker-refl, weaker-satisfied, satisfied-itself, satisfied-weaker, irrelevant-kept, regressed-held, regressed-applicable, relevant-achieves, applied-within, regressed-within}
 use Rattle.planning.specs.Domain.{Domain, Laws, Plannable}
 use Rattle.planning.specs.Sequence.{Answer, Reaches}
 use Rattle.planning.specs.Expansion.{Entry, exhausted, covered, entries, entryIn, expand}
 use Rattle.planning.specs.ExpansionLaws.{replan}
 use Rattle.planning.specs.Demand.{FirstIn, CoveredBy, tickList, Fewest}
-use Rattle.planning.specs.DemandLaws.{fewest, fewest-transfer, planned-condition, no-dead-lines, unending, start-first, covers-all, no-way, covered-iff, distance}
+use Rattle.planning.specs.DemandLaws.{fewest, fewest-transfer, planned-condition, irredundant, unending, start-first, covers-all, no-way, covered-iff, distance}
 use Rattle.planning.specs.Facts.{Actions, factDomain, unitDomain, startPlan, shiftPlan, WithinFacts}
 
-pub fact-laws : (A : Actions) (cost : ℕ → ℕ) (goal : ℕ) → Laws (factDomain A cost goal)
-fact-laws A cost goal =
-    record {
-      irrelevant-kept = λ a s c k m r. irrelevant-kept (A .needs a) (A .adds a) (A .deletes a) s c m
-          (not-T (relevant (A .adds a) (A .deletes a) c) (λ t. T-not (ltb a (A .count) && relevant (A .adds a) (A .deletes a) c) r
-          (and-intro (ltb a (A .count)) _ (and-left (ltb a (A .count)) _ k) t)));
-      regressed-held = λ a s c k m r. regressed-held (A .needs a) (A .adds a) (A .deletes a) s c (and-right (ltb a (A .count)) _ k) m;
-      regressed-applicable = λ a s c r m.
-          and-intro (ltb a (A .count)) _ (and-left (ltb a (A .count)) _ r) (regressed-applicable (A .needs a) (A .adds a) (A .deletes a) s c m);
-      relevant-achieves = λ a s c r m. relevant-achieves (A .needs a) (A .adds a) (A .deletes a) s c (and-right (ltb a (A .count)) _ r) m;
-      weaker-satisfied = λ s c d. subset-trans c d s;
-      weaker-refl = subset-refl;
-      satisfied-satisfiable = λ s c m. tt;
-    }
+module _ (A : Actions) where
+  abbrev act : ℕ → Action
+  act a = A .action a
 
-module _ (A : Actions) (goal : ℕ) where
-  abbrev D : Domain ℕ ℕ ℕ
+  number : (a : ℕ) (b : Bool) → T (ltb a (A .count) && b) → a < A .count
+  number a b t = ltb→lt a (A .count) (and-left (ltb a (A .count)) b t)
+
+  pub fact-laws : (cost : ℕ → ℕ) (goal : Condition) → Laws (factDomain A cost goal)
+  fact-laws cost goal =
+      record {
+        irrelevant-kept = λ a s c k m r. irrelevant-kept (act a) s c m
+            (not-T (relevant (act a) c) (λ t. T-not (ltb a (A .count) && relevant (act a) c) r
+            (and-intro (ltb a (A .count)) _ (and-left (ltb a (A .count)) _ k) t)));
+        regressed-held = λ a s c k m r. regressed-held (act a) s c (and-right (ltb a (A .count)) _ k) m;
+        regressed-applicable = λ a s c r m.
+            and-intro (ltb a (A .count)) _ (and-left (ltb a (A .count)) _ r) (regressed-applicable (act a) s c m);
+        relevant-achieves = λ a s c r m. relevant-achieves (act a) s c (and-right (ltb a (A .count)) _ r) m;
+        weaker-satisfied = weaker-satisfied;
+        weaker-refl = weaker-refl;
+        satisfied-satisfiable = λ s c m. tt;
+      }
+
+module _ (A : Actions) (goal : Condition) where
+  abbrev D : Domain ℕ Condition ℕ
   D = unitDomain A goal
 
   pub fact-plannable : Plannable D (A .count)
-  fact-plannable =
-      record {
-        laws = fact-laws A (λ a. 1) goal;
-        below-count = λ a c t. ltb→lt a (A .count) (and-left (ltb a (A .count)) _ t);
-        unit-cost = λ a. refl;
-      }
+  fact-plannable = record { weaker-refl = weaker-refl; below-count = λ a c t. number A a _ t; unit-cost = λ a. refl }
+
+  laws : Laws D
+  laws = fact-laws A (λ a. 1) goal
 
   -- ---- any plan over the facts: for a start, or whatever else stops it
 
-  module _ (capacity : ℕ) (stop : ℕ → Bool) where
-    abbrev planned : List (Entry ℕ)
+  module _ (capacity : ℕ) (stop : Condition → Bool) where
+    abbrev planned : List (Entry Condition)
     planned = entries (expand D (A .count) capacity stop)
 
     -- demand 3
     pub fact-fewest : (s : ℕ) → CoveredBy D planned s → Fewest D (tickList D planned) planned s
-    fact-fewest = fewest fact-plannable capacity stop
+    fact-fewest = fewest fact-plannable capacity stop laws
 
     -- every entry is expanded
-    module _ (l : List (Entry ℕ)) (e : expand D (A .count) capacity stop ≡ exhausted l) where
+    module _ (l : List (Entry Condition)) (e : expand D (A .count) capacity stop ≡ exhausted l) where
       pub fact-covers-all : (s : ℕ) (w : List ℕ) → Reaches D s w → CoveredBy D l s
-      fact-covers-all = covers-all fact-plannable capacity stop l e
+      fact-covers-all = covers-all fact-plannable capacity stop l e laws
 
       pub fact-covered-iff : (s : ℕ) → CoveredBy D l s ↔ ((w : List ℕ) × Reaches D s w)
-      fact-covered-iff = covered-iff fact-plannable capacity stop l e
+      fact-covered-iff = covered-iff fact-plannable capacity stop l e laws
 
       pub fact-distance : (s i : ℕ) → FirstIn D l s i → (d : ℕ) (w : List ℕ) → Reaches D s w → length w ≡ d
           → ((v : List ℕ) → Reaches D s v → d ≤ length v) → d ≡ entryIn D l i .depth
-      fact-distance = distance fact-plannable capacity stop l e
+      fact-distance = distance fact-plannable capacity stop l e laws
 
     -- ---- within the facts of the table: "A state is a held mask without a bit at or above F"
 
     module _ (f : ℕ) (W : WithinFacts f A goal) where
       -- a finished action leaves a state
       pub result-within : (a s : ℕ) → T (D .applicable a s) → T (within f s) → T (within f (D .result a s))
-      result-within a s t = applied-within f (A .adds a) (A .deletes a) s (W .adds-within a (ltb→lt a (A .count) (and-left (ltb a (A .count)) _ t)))
+      result-within a s t = applied-within f (A .action a) s (W .adds-within a (number A a _ t))
 
       -- each listed condition is a set of the table's facts
       pub condition-within : (i : ℕ) → i < length planned → T (within f (entryIn D planned i .condition))
       condition-within =
           planned-condition fact-plannable capacity stop (λ c. T (within f c)) (W .goal-within)
-          (λ a c t. regressed-within f (A .needs a) (A .adds a) c (W .needs-within a (fact-plannable .below-count a c t)))
+          (λ a c t. regressed-within f (A .action a) c (W .needs-within a (fact-plannable .below-count a c t)))
 
-      -- no dead lines: each entry is the first one met in at least one state
-      pub fact-no-dead-lines : (i : ℕ) → i < length planned → (s : ℕ) × T (within f s) × FirstIn D planned s i
-      fact-no-dead-lines i h =
-          (entryIn D planned i .condition, condition-within i h, no-dead-lines fact-plannable capacity stop (λ c. c) subset-refl (λ c d t. t) i h)
+      -- document 02's dead lines: there are none, since each entry is the first one met in at least one state
+      pub fact-irredundant : (i : ℕ) → i < length planned → (s : ℕ) × T (within f s) × FirstIn D planned s i
+      fact-irredundant i h =
+          let c = entryIn D planned i .condition in
+          (c, condition-within i h, irredundant fact-plannable capacity stop i h c (satisfied-itself c) (λ k l m. satisfied-weaker c _ m))
 
       -- demand 3 for every tick that answers, in each state, as the tick of the list does
       pub fact-fewest-by : (tick : ℕ → Answer ℕ) → ((s : ℕ) → T (within f s) → tick s ≡ tickList D planned s)
@@ -95,21 +102,24 @@ module _ (A : Actions) (goal : ℕ) where
   -- ---- document 02's plan for the whole shift, W2
 
   -- nothing ends it early
-  pub fact-unending : (capacity : ℕ) (l : List (Entry ℕ)) → shiftPlan A goal capacity ≡ covered l → ⊥
+  pub fact-unending : (capacity : ℕ) (l : List (Entry Condition)) → shiftPlan A goal capacity ≡ covered l → ⊥
   fact-unending capacity = unending fact-plannable capacity (λ c. false) (λ c t. t)
 
   -- ---- document 01's plan, for a start
 
   module _ (capacity start : ℕ) where
     -- it ends at the first entry that the start meets
-    pub fact-start-first : (l : List (Entry ℕ)) → startPlan A goal capacity start ≡ covered l → (i : ℕ) × (length l ≡ suc i) × FirstIn D l start i
-    fact-start-first = start-first fact-plannable capacity (λ c. subset c start) start (λ c. refl)
+    pub fact-start-first : (l : List (Entry Condition)) → startPlan A goal capacity start ≡ covered l → (i : ℕ) × (length l ≡ suc i) × FirstIn D l start i
+    fact-start-first = start-first fact-plannable capacity (λ c. satisfied c start) start (λ c. refl)
 
     -- "No way: every entry is expanded and none is part of the start." Then no sequence reaches the goal from it.
-    pub fact-no-way : (l : List (Entry ℕ)) → startPlan A goal capacity start ≡ exhausted l → (w : List ℕ) → Reaches D start w → ⊥
-    fact-no-way l e = no-way fact-plannable capacity (λ c. subset c start) l e start (λ c t. t)
+    pub fact-no-way : (l : List (Entry Condition)) → startPlan A goal capacity start ≡ exhausted l → (w : List ℕ) → Reaches D start w → ⊥
+    fact-no-way l e = no-way fact-plannable capacity (λ c. satisfied c start) l e laws start (λ c t. t)
 
     -- the plan for a start is the plan for its last condition as the start
-    pub fact-replan : (l : List (Entry ℕ)) (n : ℕ) → length l ≡ suc n → startPlan A goal capacity start ≡ covered l
+    pub fact-replan : (l : List (Entry Condition)) (n : ℕ) → length l ≡ suc n → startPlan A goal capacity start ≡ covered l
         → startPlan A goal capacity (entryIn D l n .condition) ≡ covered l
-    fact-replan = replan D (A .count) capacity (λ c. subset c start) (λ a. refl) subset-refl (fact-plannable .below-count)
+    fact-replan l n size e =
+        let last = entryIn D l n .condition in
+        replan D (A .count) capacity (λ c. satisfied c start) (λ a. refl) weaker-refl (fact-plannable .below-count)
+        (λ c. satisfied c last) l n size e (satisfied-itself last) (λ i h m. satisfied-weaker last _ m)

@@ -6,7 +6,7 @@ use mathlib.Core.List.{List, [], _∷_}
 use Prim.Native.Nat.{ℕ, zero, suc, _+_, _≤_, _<_}
 use lib.Dec.{T}
 use Rattle.planning.specs.Domain.{Domain}
-use Rattle.planning.specs.Sequence.{Answer, success, running, total, Reaches, Run}
+use Rattle.planning.specs.Sequence.{Answer, success, running, total, Shortest, Run}
 
 pub record Listing (Condition Action : Type 0) : Type 0 where
   pub condition : ℕ → Condition
@@ -65,6 +65,7 @@ module _ {State Condition Action : Type 0} (D : Domain State Condition Action) (
     pub parent-before : P .parent i < i
     pub action-relevant : T (D .relevant (P .action i) (P .condition (P .parent i)))
     pub condition-regressed : P .condition i ≡ D .regress (P .action i) (P .condition (P .parent i))
+    pub condition-satisfiable : T (D .satisfiable (P .condition i))
     pub cost-added : P .cost i ≡ D .cost (P .action i) + P .cost (P .parent i)
     -- What the action makes of the entries before the parent was listed before this entry. It is why the run keeps to the parents: the
     -- state after the action can meet no entry before the parent.
@@ -92,6 +93,5 @@ module _ {State Condition Action : Type 0} (D : Domain State Condition Action) (
   -- The run from s takes the path of entry i; it reaches the goal at the entry's cost, and no sequence that reaches the goal costs less.
   pub record Optimal (tick : State → Answer Action) (s : State) (i : ℕ) : Type 0 where
     pub run : Run D tick s (path P i)
-    pub reaches : Reaches D s (path P i)
+    pub shortest : Shortest D (total D) s (path P i)
     pub exact : total D (path P i) ≡ P .cost i
-    pub least : (w : List Action) → Reaches D s w → P .cost i ≤ total D w

@@ -71,11 +71,10 @@ module _ {State Condition Action : Type 0} (D : Domain State Condition Action) (
   pub first-covered : (s : State) (i : ℕ) → First D P n s i → Covered D P n s
   first-covered s i f = record { at = i; inside = f .inside; met = f .met }
 
-  -- each entry is the first one met in the state that has just its condition
-  pub no-dead-line : Fresh D P n → (state : Condition → State) → ((c : Condition) → T (D .satisfies (state c) c))
-      → ((c d : Condition) → T (D .satisfies (state c) d) → T (D .weaker d c)) → (i : ℕ) → i < n → First D P n (state (P .condition i)) i
-  no-dead-line fresh state has only i h =
-      record { inside = h; met = has (P .condition i); none-before = λ k l m. fresh i k l h (only (P .condition i) (P .condition k) m) }
+  -- an entry is the first one met in a state that meets its condition, and of the earlier ones only parts of it
+  pub irredundant-entry : Fresh D P n → (i : ℕ) → i < n → (s : State) → T (D .satisfies s (P .condition i))
+      → ((k : ℕ) → k < i → T (D .satisfies s (P .condition k)) → T (D .weaker (P .condition k) (P .condition i))) → First D P n s i
+  irredundant-entry fresh i h s met only = record { inside = h; met = met; none-before = λ k l m. fresh i k l h (only k l m) }
 
 -- ---- a good list
 
@@ -150,8 +149,8 @@ module _ {State Condition Action : Type 0} (D : Domain State Condition Action) (
 
     pub path-reaches : (s : State) (i : ℕ) → First D P n s i → Reaches D s (path P i)
     path-reaches =
-        along-path (Reaches D) (λ s f. record { unspoilt = tt; at-goal = rw (G .goal-first) at (f .met) })
-        (λ s i w f t r. record { unspoilt = (t, r .unspoilt); at-goal = r .at-goal })
+        along-path (Reaches D) (λ s f. record { executable = tt; at-goal = rw (G .goal-first) at (f .met) })
+        (λ s i w f t r. record { executable = (t, r .executable); at-goal = r .at-goal })
 
     -- the run takes the path of the first entry met
     pub path-runs : (tick : State → Answer Action) → ((s : State) (i : ℕ) → First D P n s i → tick s ≡ answerAt P i)
@@ -164,19 +163,19 @@ module _ {State Condition Action : Type 0} (D : Domain State Condition Action) (
     covers bound C [] s r lt =
         record { covered = record { at = 0; inside = G .nonempty; met = rw (G .goal-first) (r .at-goal) }; cheap = omega (arith, G .goal-free) }
     covers bound C (a ∷ w) s r lt =
-        let rest : Reaches D (D .result a s) w = record { unspoilt = r .unspoilt .1; at-goal = r .at-goal } in
+        let rest : Reaches D (D .result a s) w = record { executable = r .executable .1; at-goal = r .at-goal } in
         let m : CoveredWithin D P n (total D w) (D .result a s) = covers bound C w (D .result a s) rest (omega arith) in
         let c = m .covered in
         by-cases (D .relevant a (P .condition (c .at)))
         (λ t.
-        let b = L .regressed-held a s (P .condition (c .at)) (r .unspoilt .0) (c .met) t in
+        let b = L .regressed-held a s (P .condition (c .at)) (r .executable .0) (c .met) t in
         let k = C (c .at) (c .inside) a t (L .satisfied-satisfiable s _ b) (omega (arith, m .cheap)) in
         record {
           covered = record { at = k .subsumed .at; inside = k .subsumed .inside; met = L .weaker-satisfied s _ _ (k .subsumed .isWeaker) b };
           cheap = omega (arith, k .cheap, m .cheap);
         })
         (λ t. record {
-          covered = record { at = c .at; inside = c .inside; met = L .irrelevant-kept a s _ (r .unspoilt .0) (c .met) t };
+          covered = record { at = c .at; inside = c .inside; met = L .irrelevant-kept a s _ (r .executable .0) (c .met) t };
           cheap = omega (arith, m .cheap);
         })
 
@@ -199,7 +198,10 @@ module _ {State Condition Action : Type 0} (D : Domain State Condition Action) (
     best tick answers s i f bound le C =
         record {
           run = path-runs tick answers s i f;
-          reaches = path-reaches s i f;
+          shortest =
+              record {
+                reaches = path-reaches s i f;
+                least = λ w r. omega (arith, path-exact i (f .inside), optimal s i f (λ j jn a t l lt. C j jn a t l (omega arith)) w r);
+              };
           exact = path-exact i (f .inside);
-          least = optimal s i f (λ j jn a t l lt. C j jn a t l (omega arith));
         }

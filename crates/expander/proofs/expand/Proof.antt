@@ -1,6 +1,6 @@
 -- The loops run through the definition: at the head of each, what remains of it gives the plan (proofs/Loops.antt). So the way out by which
 -- the function returns is the outcome of the plan, and the tables hold its list.
-use mathlib.Core.Path.{_≡_, sym, _∙_}
+use mathlib.Core.Path.{_≡_, sym, ap, _∙_}
 use mathlib.Core.Bool.{true, false, not}
 use mathlib.Core.Logic.{⊎-elim}
 use Prim.Native.Nat.{_+_, _-_, _<_}
@@ -10,7 +10,8 @@ use borrow.Author.Tests.{not-true, not-false}
 use lib.Dec.{T}
 use lib.ListN.{getD, length-set}
 use Rattle.base.specs.Bools.{holds, fails}
-use Rattle.masks.specs.Sets.{subset}
+use Rattle.conditions.specs.declared.Action.{Action}
+use Rattle.conditions.specs.Condition.{Condition, weaker, relevant, regressed}
 use Rattle.planning.specs.Facts.{Actions}
 use Rattle.expander.specs.declared.Expanded.the-variants as X
 use Rattle.expander.specs.Expands.{actionsOf, Columns, columns, room, endedBy}
@@ -21,32 +22,32 @@ use Rattle.expander.proofs.expand.Statement.{statement}
 use Rattle.expander.proofs.expand.Tie as tie
 
 abbrev Inv-search : tie.InvT-search
-Inv-search needs adds deletes goal stop conditions actions parents depths capacity count n e condition depth next a new k₀ k =
+Inv-search needs adds deletes goal until conditions actions parents depths capacity count n e condition depth next a new k₀ k =
     AtListed conditions n new k
 
 abbrev μ-search : tie.MeasureT-search
-μ-search needs adds deletes goal stop conditions actions parents depths capacity count n e condition depth next a new k₀ k = n - k
+μ-search needs adds deletes goal until conditions actions parents depths capacity count n e condition depth next a new k₀ k = n - k
 
 abbrev Inv-actions : tie.InvT-actions
-Inv-actions needs adds deletes goal stop conditions₀ actions₀ parents₀ depths₀ capacity count n₀ e condition depth next₀ conditions actions
+Inv-actions needs adds deletes goal until conditions₀ actions₀ parents₀ depths₀ capacity count n₀ e condition depth next₀ conditions actions
     parents depths n next =
     InRows needs adds deletes count
-    × AtAction (actionsOf needs adds deletes) goal (endedBy stop) capacity count (columns conditions₀ actions₀ parents₀ depths₀) n₀ e condition depth
+    × AtAction (actionsOf needs adds deletes) goal (endedBy until) capacity count (columns conditions₀ actions₀ parents₀ depths₀) n₀ e condition depth
     (columns conditions actions parents depths) n next
 
 abbrev μ-actions : tie.MeasureT-actions
-μ-actions needs adds deletes goal stop conditions₀ actions₀ parents₀ depths₀ capacity count n₀ e condition depth next₀ conditions actions
+μ-actions needs adds deletes goal until conditions₀ actions₀ parents₀ depths₀ capacity count n₀ e condition depth next₀ conditions actions
     parents depths n next =
     count - next
 
 abbrev Inv-entries : tie.InvT-entries
-Inv-entries needs adds deletes goal stop conditions₀ actions₀ parents₀ depths₀ capacity count n₀ e₀ conditions actions parents depths n e =
+Inv-entries needs adds deletes goal until conditions₀ actions₀ parents₀ depths₀ capacity count n₀ e₀ conditions actions parents depths n e =
     InRows needs adds deletes count
-    × AtEntry (actionsOf needs adds deletes) goal (endedBy stop) capacity count (columns conditions₀ actions₀ parents₀ depths₀) n₀
+    × AtEntry (actionsOf needs adds deletes) goal (endedBy until) capacity count (columns conditions₀ actions₀ parents₀ depths₀) n₀
     (columns conditions actions parents depths) n e
 
 abbrev μ-entries : tie.MeasureT-entries
-μ-entries needs adds deletes goal stop conditions₀ actions₀ parents₀ depths₀ capacity count n₀ e₀ conditions actions parents depths n e = capacity - e
+μ-entries needs adds deletes goal until conditions₀ actions₀ parents₀ depths₀ capacity count n₀ e₀ conditions actions parents depths n e = capacity - e
 
 -- ---- the places that several answers look back at
 
@@ -63,6 +64,12 @@ AtActions = tie.At-actions Inv-search μ-search Inv-actions μ-actions Inv-entri
 abbrev AtSearch : Type 0
 AtSearch = tie.At-search Inv-search μ-search Inv-actions μ-actions Inv-entries μ-entries
 
+abbrev Asked : Type 0
+Asked = tie.After-is-relevant Inv-search μ-search Inv-actions μ-actions Inv-entries μ-entries
+
+abbrev Made : Type 0
+Made = tie.After-regress Inv-search μ-search Inv-actions μ-actions Inv-entries μ-entries
+
 abbrev Searched : Type 0
 Searched = tie.Joined5 Inv-search μ-search Inv-actions μ-actions Inv-entries μ-entries
 
@@ -74,7 +81,7 @@ entry-of c = c .before .before .before .before
 
 -- the turn of the loop over actions, and its test
 abbrev turn-of : AtSearch → tie.In-actions Inv-search μ-search Inv-actions μ-actions Inv-entries μ-entries
-turn-of c = c .before .before .before .before .before .before .before .before
+turn-of c = c .before .before .before .before .before
 
 abbrev action-of : AtSearch → AtActions
 action-of c = turn-of c .before
@@ -102,17 +109,33 @@ action-held : (c : AtActions) → Holds (entry-of c .before .before .before .bef
     (columns (c .actions .conditions) (c .actions .actions) (c .actions .parents) (c .actions .depths))
 action-held c = holds-on (entry-held (entry-of c)) (c .actions .inv .1 .holds) (c .actions .inv .1 .grown)
 
+-- the condition and the action in hand
+abbrev condition-of : AtActions → Condition
+condition-of c = getD (entry-of c .entries .conditions) (entry-of c .entries .e) 0
+
+abbrev action-at : AtActions → Action
+action-at c = given (start-of (entry-of c)) .action (c .actions .next)
+
+relevance-is : (c : Asked) → let x = c .before .before .before in c .is-relevant .result ≡ relevant (action-at x) (condition-of x)
+relevance-is c =
+    let x = c .before .before .before in
+    c .is-relevant .ensures ∙ ap (λ (a : Action). relevant a (condition-of x)) (c .before .action-at .ensures)
+
+made-is : (c : Made) → let x = c .before .before .before .before .before in c .regress .result ≡ regressed (action-at x) (condition-of x)
+made-is c =
+    let x = c .before .before .before .before .before in
+    c .regress .ensures ∙ ap (λ (a : Action). regressed a (condition-of x)) (c .before .before .before .action-at .ensures)
+
 -- the search passed every entry
 new-wanted : (c : Searched) → not (c .if5 .found) ≡ true
-    → let x = action-of (c .before) .actions in
-    let y = entry-of (action-of (c .before)) .entries in
-    Wanted (given (start-of (entry-of (action-of (c .before))))) (x .conditions) (x .n) (getD (y .conditions) (y .e) 0) (x .next)
-    (c .before .before .regress .result)
+    → let x = action-of (c .before) in
+    Wanted (given (start-of (entry-of x))) (x .actions .conditions) (x .actions .n) (condition-of x) (x .actions .next) (c .before .before .regress .result)
 new-wanted c t =
+    let made = c .before .before in
     record {
       below = omega (arith, action-of (c .before) .actions .inv .1 .counted, turn-of (c .before) .actions-test .taken);
-      serves = holds _ (sym (c .before .before .before .before .before .before .is-relevant .ensures) ∙ c .before .before .before .before .before .if4 .taken);
-      made = c .before .before .regress .ensures;
+      serves = holds _ (sym (relevance-is (made .before .before)) ∙ made .before .if4 .taken);
+      made = made-is made;
       unlisted = λ i h.
           ⊎-elim (λ w. c .before .search .inv .passed i (omega (arith, w .0 .taken))) (λ w. absurd (clash (w .4) (not-true _ t))) (c .if5 .came);
     }
@@ -120,7 +143,7 @@ new-wanted c t =
 -- it stopped at an entry whose condition is a part of the new one
 part-listed : (c : Searched) → not (c .if5 .found) ≡ false
     → let x = action-of (c .before) .actions in
-    (c .before .search .k < x .n) × T (subset (getD (x .conditions) (c .before .search .k) 0) (c .before .before .regress .result))
+    (c .before .search .k < x .n) × T (weaker (getD (x .conditions) (c .before .search .k) 0) (c .before .before .regress .result))
 part-listed c t =
     ⊎-elim (λ w. absurd (clash (not-false _ t) (w .1)))
     (λ w. (omega (arith, c .before .search .inv .inside, w .0 .left), holds _ (sym (w .2 .ensures) ∙ w .3 .taken))) (c .if5 .came)
@@ -207,32 +230,11 @@ actions-holds c = (c .before .before .before .entries .inv .0, enter (c .before 
 add-next : tie.Need-add-next Inv-search μ-search Inv-actions μ-actions Inv-entries μ-entries
 add-next c = search needs
 
-mul-is-relevant : tie.Need-mul-is-relevant Inv-search μ-search Inv-actions μ-actions Inv-entries μ-entries
-mul-is-relevant c = search needs
-
-shared-slice-read-is-relevant : tie.Need-shared-slice-read-is-relevant Inv-search μ-search Inv-actions μ-actions Inv-entries μ-entries
-shared-slice-read-is-relevant c = search needs
-
-mul-is-relevant-2 : tie.Need-mul-is-relevant-2 Inv-search μ-search Inv-actions μ-actions Inv-entries μ-entries
-mul-is-relevant-2 c = search needs
-
-shared-slice-read-is-relevant-2 : tie.Need-shared-slice-read-is-relevant-2 Inv-search μ-search Inv-actions μ-actions Inv-entries μ-entries
-shared-slice-read-is-relevant-2 c = search needs
+action-at-requires : tie.Need-action-at-requires Inv-search μ-search Inv-actions μ-actions Inv-entries μ-entries
+action-at-requires c κs = tt
 
 is-relevant-requires : tie.Need-is-relevant-requires Inv-search μ-search Inv-actions μ-actions Inv-entries μ-entries
 is-relevant-requires c κs = tt
-
-mul-regress : tie.Need-mul-regress Inv-search μ-search Inv-actions μ-actions Inv-entries μ-entries
-mul-regress c = search needs
-
-shared-slice-read-regress : tie.Need-shared-slice-read-regress Inv-search μ-search Inv-actions μ-actions Inv-entries μ-entries
-shared-slice-read-regress c = search needs
-
-mul-regress-2 : tie.Need-mul-regress-2 Inv-search μ-search Inv-actions μ-actions Inv-entries μ-entries
-mul-regress-2 c = search needs
-
-shared-slice-read-regress-2 : tie.Need-shared-slice-read-regress-2 Inv-search μ-search Inv-actions μ-actions Inv-entries μ-entries
-shared-slice-read-regress-2 c = search needs
 
 regress-requires : tie.Need-regress-requires Inv-search μ-search Inv-actions μ-actions Inv-entries μ-entries
 regress-requires c κs = tt
@@ -240,16 +242,16 @@ regress-requires c κs = tt
 search-holds : tie.Need-search-holds Inv-search μ-search Inv-actions μ-actions Inv-entries μ-entries
 search-holds c = search needs
 
-mul-is-subset : tie.Need-mul-is-subset Inv-search μ-search Inv-actions μ-actions Inv-entries μ-entries
-mul-is-subset c = search needs
+mul-is-weaker : tie.Need-mul-is-weaker Inv-search μ-search Inv-actions μ-actions Inv-entries μ-entries
+mul-is-weaker c = search needs
 
-slice-read-is-subset : tie.Need-slice-read-is-subset Inv-search μ-search Inv-actions μ-actions Inv-entries μ-entries
-slice-read-is-subset c =
+slice-read-is-weaker : tie.Need-slice-read-is-weaker Inv-search μ-search Inv-actions μ-actions Inv-entries μ-entries
+slice-read-is-weaker c =
     let s = c .before .before in
     omega (arith, s .search .inv .inside, c .before .if5 .left, action-of s .actions .inv .1 .holds)
 
-is-subset-requires : tie.Need-is-subset-requires Inv-search μ-search Inv-actions μ-actions Inv-entries μ-entries
-is-subset-requires c κs = tt
+is-weaker-requires : tie.Need-is-weaker-requires Inv-search μ-search Inv-actions μ-actions Inv-entries μ-entries
+is-weaker-requires c κs = tt
 
 add-k : tie.Need-add-k Inv-search μ-search Inv-actions μ-actions Inv-entries μ-entries
 add-k c = search needs
@@ -259,7 +261,7 @@ search-less c = omega (arith, c .before .before .before .before .search .inv .in
 
 search-again : tie.Need-search-again Inv-search μ-search Inv-actions μ-actions Inv-entries μ-entries
 search-again c =
-    pass (c .before .before .before .before .search .inv) (c .before .before .before .if5 .left) (fails _ (sym (c .before .is-subset .ensures) ∙ c .if6 .left))
+    pass (c .before .before .before .before .search .inv) (c .before .before .before .if5 .left) (fails _ (sym (c .before .is-weaker .ensures) ∙ c .if6 .left))
 
 mul-conditions : tie.Need-mul-conditions Inv-search μ-search Inv-actions μ-actions Inv-entries μ-entries
 mul-conditions c = search needs
@@ -325,16 +327,16 @@ actions-again-2 c =
     let s = c .before .before in
     let p = part-listed (c .before) (c .if7 .left) in
     let x = action-of s .actions in
-    (x .inv .0, skip-listed (x .inv .1) (turn-of s .actions-test .taken) _ (s .before .regress .ensures) _ (p .0) (p .1))
+    (x .inv .0, skip-listed (x .inv .1) (turn-of s .actions-test .taken) _ (made-is (s .before)) _ (p .0) (p .1))
 
 actions-less-3 : tie.Need-actions-less-3 Inv-search μ-search Inv-actions μ-actions Inv-entries μ-entries
 actions-less-3 c = search needs
 
 actions-again-3 : tie.Need-actions-again-3 Inv-search μ-search Inv-actions μ-actions Inv-entries μ-entries
 actions-again-3 c =
-    let x = c .before .before .before .before .before .actions in
-    let irrelevant = fails _ (sym (c .before .is-relevant .ensures) ∙ c .if4 .left) in
-    (x .inv .0, skip-irrelevant (x .inv .1) (c .before .before .before .before .actions-test .taken) irrelevant)
+    let x = c .before .before .before .before .actions in
+    let irrelevant = fails _ (sym (relevance-is (c .before)) ∙ c .if4 .left) in
+    (x .inv .0, skip-irrelevant (x .inv .1) (c .before .before .before .actions-test .taken) irrelevant)
 
 add-e : tie.Need-add-e Inv-search μ-search Inv-actions μ-actions Inv-entries μ-entries
 add-e c = search needs
@@ -433,20 +435,13 @@ expand-spec =
     slice-read-depth
     actions-holds
     add-next
-    mul-is-relevant
-    shared-slice-read-is-relevant
-    mul-is-relevant-2
-    shared-slice-read-is-relevant-2
+    action-at-requires
     is-relevant-requires
-    mul-regress
-    shared-slice-read-regress
-    mul-regress-2
-    shared-slice-read-regress-2
     regress-requires
     search-holds
-    mul-is-subset
-    slice-read-is-subset
-    is-subset-requires
+    mul-is-weaker
+    slice-read-is-weaker
+    is-weaker-requires
     add-k
     search-less
     search-again

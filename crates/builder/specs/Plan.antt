@@ -1,0 +1,104 @@
+-- Plans, of whatever kind: the list of a table's goal and its tree, and what of them stands in every lent slice: document 01, "Expansion", stops 10
+-- to 12.
+-- Definitions only.
+use Prim.Native.Nat.{ℕ}
+use mathlib.Core.Path.{_≡_}
+use mathlib.Core.List.{List, [], _++_}
+use lib.Dec.{leb}
+use lib.ListN.{length, getD, drop}
+use Rattle.base.specs.Bools.{if_then_else_}
+use Rattle.refusal.specs.Checked.{Checked, accepted, refused, refusedBy}
+use Rattle.conditions.specs.Condition.{Condition}
+use Rattle.table.specs.declared.Job.{Job}
+use Rattle.table.specs.Table.{Table, noJob, actionOf}
+use Rattle.planning.specs.Domain.{Domain}
+use Rattle.planning.specs.Expansion.{Entry, Outcome, entries}
+use Rattle.planning.specs.Facts.{Actions, unitDomain, factPlan}
+use Rattle.expander.specs.declared.Until.{Until}
+use Rattle.expander.specs.Expands.{Columns, written, endedBy, listedBy}
+use Rattle.flat.specs.TreeBytes.{treeBytes}
+use Rattle.builder.specs.declared.Size.{Size}
+use Rattle.builder.specs.declared.Listed.{Listed}
+use Rattle.builder.specs.declared.Listed.the-variants as L
+use Rattle.builder.specs.declared.Built.{Built}
+use Rattle.builder.specs.declared.Built.the-variants as B
+
+-- ---- what is planned: the jobs of a table are the actions, by their numbers
+
+abbrev pub jobOf : Table → ℕ → Job
+jobOf t a = getD (t .jobs) a noJob
+
+abbrev pub tableActions : Table → Actions
+tableActions t = record { count = length (t .jobs); action = λ a. actionOf (jobOf t a) }
+
+-- states are held masks, each job counts as one
+abbrev pub tableDomain : Table → Domain ℕ Condition ℕ
+tableDomain t = unitDomain (tableActions t) (t .goal)
+
+-- ---- a plan: its answer, the entries that it stores and the bytes of the tree that it writes
+
+-- an accepted answer tells what the kind of plan has to tell
+pub record Plan (Told : Type 0) : Type 0 where
+  pub answer : Checked Told
+  pub list : List (Entry Condition)
+  pub tree : List ℕ
+
+module _ {Told : Type 0} where
+  -- nothing is stored, nothing written: "Every other refused call .. writes to nothing that is lent"
+  abbrev pub noPlan : ℕ → ℕ → Plan Told
+  noPlan number place = record { answer = refused number place; list = []; tree = [] }
+
+  -- a list that is stored, with no tree; "The place is .. the entries stored for 10 to 12."
+  abbrev pub listOnly : ℕ → List (Entry Condition) → Plan Told
+  listOnly number l = record { answer = refused number (length l); list = l; tree = [] }
+
+  abbrev pub listAndTree : Told → List (Entry Condition) → Plan Told
+  listAndTree told l = record { answer = accepted told; list = l; tree = treeBytes l }
+
+  -- a list whose tree is due, where the lent tree has room for so many bytes. 12: "The lent tree is shorter than" the list's tree.
+  abbrev pub withTree : ℕ → Told → List (Entry Condition) → Plan Told
+  withTree room told l = if leb (length (treeBytes l)) room then listAndTree told l else listOnly 12 l
+
+  -- a list that ended as was asked, or 10 or 11
+  abbrev pub finishedBy : ℕ → (List (Entry Condition) → Told) → List (Entry Condition) → Checked (List (Entry Condition)) → Plan Told
+  finishedBy room tell l (accepted m) = withTree room (tell m) m
+  finishedBy room tell l (refused number place) = record { answer = refused number place; list = l; tree = [] }
+
+  abbrev pub planBy : Until → ℕ → (List (Entry Condition) → Told) → Outcome Condition → Plan Told
+  planBy until room tell o = finishedBy room tell (entries o) (listedBy until o)
+
+  -- the plan of a table that was read, with room for so many entries and so many bytes of a tree
+  unfoldable pub tablePlan : Until → Table → ℕ → ℕ → (List (Entry Condition) → Told) → Plan Told
+  tablePlan until t capacity room tell = planBy until room tell (factPlan (tableActions t) (t .goal) capacity (endedBy until))
+
+  -- the checks before it first
+  abbrev pub afterChecks : Checked Table → (Table → Plan Told) → Plan Told
+  afterChecks (accepted t) plan = plan t
+  afterChecks (refused number place) plan = noPlan number place
+
+-- what every list and its tree have to tell
+abbrev pub sizeOf : List (Entry Condition) → Size
+sizeOf l = record { entries = length l; bytes = length (treeBytes l) }
+
+-- ---- the answers of the code, in these terms
+
+abbrev pub listedOf : Listed → Checked ℕ
+listedOf (L.Entries n) = accepted n
+listedOf (L.Refused x) = refusedBy x
+
+abbrev pub builtOf : Built → Checked Size
+builtOf (B.Whole size) = accepted size
+builtOf (B.Refused x) = refusedBy x
+
+-- ---- what a plan leaves in every lent slice
+
+module _ {Told : Type 0} where
+  -- The answer is the plan's, and the tree stands at the front of the lent one.
+  pub record WritesTree (P : Plan Told) (lent tree : List ℕ) (told : Checked Told) : Type 0 where
+    pub answer : told ≡ P .answer
+    pub tree-written : tree ≡ P .tree ++ drop (length (P .tree)) lent
+
+  -- So does the list at the front of the list tables; "all else untouched".
+  pub record WritesPlan (P : Plan Told) (before after : Columns) (lent tree : List ℕ) (told : Checked Told) : Type 0 where
+    pub tables : after ≡ written (P .list) before
+    pub answer-and-tree : WritesTree P lent tree told

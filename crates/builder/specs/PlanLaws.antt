@@ -1,0 +1,275 @@
+-- What the parts of the code leave comes to the plan that the definition gives.
+-- Assumes nothing.
+use Prim.Native.Nat.{ℕ, _+_, _≤_, _<_}
+use native.Mathlib.Omega.{arith}
+use mathlib.Core.Path.{_≡_, refl, sym, ap, _∙_, subst}
+use mathlib.Core.Bool.{Bool, true, false}
+use mathlib.Core.List.{List, [], _++_, map}
+use mathlib.Core.Logic.{_⊎_, inl, inr}
+use lib.Dec.{leb}
+use lib.ListN.{length, drop, length-append, length-drop, length-map}
+use borrow.Author.Tests.{le-leb, lt-leb, leb-false}
+use Rattle.base.specs.Bools.{if_then_else_}
+use Rattle.base.specs.Lists.{length-prefix}
+use Rattle.refusal.specs.Checked.{Checked, accepted, refused, andThen}
+use Rattle.refusal.specs.CheckedLaws.{not-both, accepted-same, accepted-then}
+use Rattle.conditions.specs.Condition.{Condition}
+use Rattle.table.specs.Table.{Table}
+use Rattle.planning.specs.Expansion.{Entry, Outcome, exhausted, covered, full, entries}
+use Rattle.planning.specs.Columns.{entryAt}
+use Rattle.planning.specs.Facts.{Actions}
+use Rattle.expander.specs.declared.Expanded.{Expanded}
+use Rattle.expander.specs.declared.Expanded.the-variants as X
+use Rattle.expander.specs.declared.Until.{Until}
+use Rattle.expander.specs.declared.Until.the-variants as U
+use Rattle.expander.specs.Expands.{Columns, over, written, room, held, endedBy, planIn, expandedOf, listedBy, outcomeOf, Expands}
+use Rattle.expander.specs.ExpandsLaws.{stored, list-held, list-length, held-length, stored-fits, stored-small, exhausted-some, covered-some}
+use Rattle.expander.specs.ExpandsLaws.{capacity-conditions, capacity-actions, capacity-parents, capacity-depths}
+use Rattle.flat.specs.TreeBytes.{treeBytes}
+use Rattle.flat.specs.TreeBytesLaws.{lines}
+use Rattle.flat.specs.FlatLaws.{tree-columns}
+use Rattle.builder.specs.declared.Size.{Size}
+use Rattle.builder.specs.Plan.{tableActions, Plan, noPlan, listOnly, listAndTree, withTree, finishedBy, planBy, tablePlan, sizeOf, WritesTree, WritesPlan}
+
+-- ---- the tree of a list that stands in columns
+
+module _ {Told : Type 0} (l : List (Entry Condition)) (told : Told) (lent tree : List ℕ) (answer : Checked Told) where
+  -- 12: the lent tree is too short, and stays as it is
+  pub tree-short : length lent < length (treeBytes l) → lent ≡ tree → answer ≡ refused 12 (length l)
+      → WritesTree (withTree (length lent) told l) lent tree answer
+  tree-short h same a =
+      rw (lt-leb (length (treeBytes l)) (length lent) h) (record { answer = a; tree-written = sym same })
+
+  pub tree-fits : length (treeBytes l) ≤ length lent → tree ≡ treeBytes l ++ drop (length (treeBytes l)) lent → answer ≡ accepted told
+      → WritesTree (withTree (length lent) told l) lent tree answer
+  tree-fits h written a = rw (le-leb (length (treeBytes l)) (length lent) h) (record { answer = a; tree-written = written })
+
+-- the same tree, of a list that has the same conditions and actions, with another answer
+module _ {Told Other : Type 0} (room : ℕ) (l m : List (Entry Condition)) (sizes : length l ≡ length m) (trees : treeBytes l ≡ treeBytes m)
+    (a : Told) (b : Other) (f : Told → Other) (same : f a ≡ b) (lent tree : List ℕ) (told : Checked Told) where
+  pub retold : WritesTree (withTree room a l) lent tree told → WritesTree (withTree room b m) lent tree (andThen told (λ x. accepted (f x)))
+  retold = rw (← sizes, ← trees) (by-room (leb (length (treeBytes l)) room))
+    where
+      by-room : (fits : Bool) → WritesTree (if fits then listAndTree a l else listOnly 12 l) lent tree told
+          → WritesTree (if fits then record { answer = accepted b; list = m; tree = treeBytes l } else record { answer = refused 12 (length l); list = m; tree = [] })
+          lent tree (andThen told (λ x. accepted (f x)))
+      by-room true W = record { answer = ap (λ (t : Checked Told). andThen t (λ x. accepted (f x))) (W .answer) ∙ ap accepted same; tree-written = W .tree-written }
+      by-room false W = record { answer = ap (λ (t : Checked Told). andThen t (λ x. accepted (f x))) (W .answer); tree-written = W .tree-written }
+
+-- ---- how a list ended
+
+pub listed-entries : (until : Until) (o : Outcome Condition) (l : List (Entry Condition)) → listedBy until o ≡ accepted l → l ≡ entries o
+listed-entries until (full m) l e = absurd (not-both e)
+listed-entries (U.Covers start) (exhausted m) l e = absurd (not-both e)
+listed-entries U.Never (exhausted m) l e = sym (accepted-same e)
+listed-entries (U.Covers start) (covered m) l e = sym (accepted-same e)
+listed-entries U.Never (covered m) l e = sym (accepted-same e)
+
+refused-then : {A B : Type 0} (c : Checked A) (k : A → B) (n p : ℕ) → refused n p ≡ andThen c (λ a. accepted (k a)) → c ≡ refused n p
+refused-then (accepted a) k n p e = absurd (not-both e)
+refused-then (refused m q) k n p e = cc
+
+module _ {A : Actions} {goal : Condition} {until : Until} {before after : Columns} {x : Expanded} (E : Expands A goal until before after x) where
+  -- the list ended as was asked
+  module _ (n : ℕ) (e : expandedOf until x ≡ accepted n) where
+    pub ended-stored : stored x ≡ n
+    ended-stored = by-answer until x e
+      where
+        by-answer : (u : Until) (x : Expanded) → expandedOf u x ≡ accepted n → stored x ≡ n
+        by-answer u (X.Full m) e = absurd (not-both e)
+        by-answer (U.Covers start) (X.Exhausted m) e = absurd (not-both e)
+        by-answer U.Never (X.Exhausted m) e = accepted-same e
+        by-answer (U.Covers start) (X.Covered m) e = accepted-same e
+        by-answer U.Never (X.Covered m) e = accepted-same e
+
+    pub ended-listed : listedBy until (planIn before A goal until) ≡ accepted (held after n)
+    ended-listed =
+        let w = accepted-then (listedBy until (planIn before A goal until)) (λ l. accepted (length l)) n (sym (E .answer) ∙ e) in
+        w .1 ∙ ap accepted (listed-entries until (planIn before A goal until) (w .0) (w .1) ∙ sym (list-held E) ∙ ap (held after) ended-stored)
+
+    pub ended-some : 1 ≤ n
+    ended-some = by-answer until x E e
+      where
+        by-answer : (u : Until) (x : Expanded) → Expands A goal u before after x → expandedOf u x ≡ accepted n → 1 ≤ n
+        by-answer u (X.Full m) E e = absurd (not-both e)
+        by-answer (U.Covers start) (X.Exhausted m) E e = absurd (not-both e)
+        by-answer U.Never (X.Exhausted m) E e = omega (arith, exhausted-some E, accepted-same e)
+        by-answer (U.Covers start) (X.Covered m) E e = omega (arith, covered-some E, accepted-same e)
+        by-answer U.Never (X.Covered m) E e = omega (arith, covered-some E, accepted-same e)
+
+  pub refused-listed : (n p : ℕ) → expandedOf until x ≡ refused n p → listedBy until (planIn before A goal until) ≡ refused n p
+  refused-listed n p e = refused-then (listedBy until (planIn before A goal until)) length n p (sym e ∙ E .answer)
+
+  -- ---- the columns are long enough for it
+
+  over-length : (field : Entry Condition → ℕ) (l : List (Entry Condition)) (xs : List ℕ) → length l ≤ length xs → length (over field l xs) ≡ length xs
+  over-length field l xs h = omega (arith, length-append (map field l) (drop (length l) xs), length-map l field, length-drop (length l) xs)
+
+  stands : (field : Entry Condition → ℕ) (xs ys : List ℕ) → xs ≡ over field (entries (planIn before A goal until)) ys → room before ≤ length ys
+      → stored x ≤ length xs
+  stands field xs ys e h =
+      omega (arith, ap length e, over-length field (entries (planIn before A goal until)) ys (omega (arith, list-length E, stored-fits E, h)), stored-fits E, h)
+
+  pub record Stands (n : ℕ) (t : Columns) : Type 0 where
+    pub few : n ≤ 4096
+    pub in-conditions : n ≤ length (t .conditions)
+    pub in-actions : n ≤ length (t .actions)
+    pub in-parents : n ≤ length (t .parents)
+    pub in-depths : n ≤ length (t .depths)
+
+  pub list-stands : Stands (stored x) after
+  list-stands =
+      let c = length (before .conditions) in
+      let a = length (before .actions) in
+      let p = length (before .parents) in
+      let d = length (before .depths) in
+      record {
+        few = stored-small E;
+        in-conditions = stands (λ x. x .condition) _ _ (ap (λ (t : Columns). t .conditions) (E .tables)) (capacity-conditions c a p d);
+        in-actions = stands (λ x. x .action) _ _ (ap (λ (t : Columns). t .actions) (E .tables)) (capacity-actions c a p d);
+        in-parents = stands (λ x. x .parent) _ _ (ap (λ (t : Columns). t .parents) (E .tables)) (capacity-parents c a p d);
+        in-depths = stands (λ x. x .depth) _ _ (ap (λ (t : Columns). t .depths) (E .tables)) (capacity-depths c a p d);
+      }
+
+-- ---- the plan of a table
+
+by-room-list : {Told : Type 0} (b : Bool) (told : Told) (l : List (Entry Condition)) → (if b then listAndTree told l else listOnly 12 l) .list ≡ l
+by-room-list true told l = refl
+by-room-list false told l = refl
+
+finished-list : {Told : Type 0} (room : ℕ) (tell : List (Entry Condition) → Told) (l : List (Entry Condition)) (c : Checked (List (Entry Condition)))
+    → ((m : List (Entry Condition)) → c ≡ accepted m → m ≡ l) → finishedBy room tell l c .list ≡ l
+finished-list room tell l (accepted m) same = by-room-list (leb (length (treeBytes m)) room) (tell m) m ∙ same m refl
+finished-list room tell l (refused n p) same = refl
+
+-- whatever its answer, the list is that of the expansion
+pub plan-list : {Told : Type 0} (until : Until) (room : ℕ) (tell : List (Entry Condition) → Told) (o : Outcome Condition) → planBy until room tell o .list ≡ entries o
+plan-list until room tell o = finished-list room tell (entries o) (listedBy until o) (listed-entries until o)
+
+module _ {Told : Type 0} (t : Table) (until : Until) (before after : Columns) (x : Expanded) (E : Expands (tableActions t) (t .goal) until before after x)
+    (tell : List (Entry Condition) → Told) (lent : List ℕ) (told : Checked Told) where
+  abbrev plan : Plan Told
+  plan = tablePlan until t (room before) (length lent) tell
+
+  abbrev outcome : Outcome Condition
+  outcome = planIn before (tableActions t) (t .goal) until
+
+  tables-are : after ≡ written (plan .list) before
+  unfolding tablePlan
+  tables-are = E .tables ∙ ap (λ (l : List (Entry Condition)). written l before) (sym (plan-list until (length lent) tell outcome))
+
+  -- 10 or 11: no tree is written
+  pub writes-list : (n p : ℕ) → expandedOf until x ≡ refused n p → told ≡ refused n p → WritesPlan plan before after lent lent told
+  unfolding tablePlan
+  writes-list n p e a =
+      record { tables = tables-are; answer-and-tree = rw here (record { answer = a; tree-written = refl }) }
+    where
+      here : plan ≡ record { answer = refused n p; list = entries outcome; tree = [] }
+      here = ap (finishedBy (length lent) tell (entries outcome)) (refused-listed E n p e)
+
+  pub writes-tree : (n : ℕ) → expandedOf until x ≡ accepted n → (tree : List ℕ)
+      → WritesTree (withTree (length lent) (tell (held after n)) (held after n)) lent tree told → WritesPlan plan before after lent tree told
+  unfolding tablePlan
+  writes-tree n e tree W = record { tables = tables-are; answer-and-tree = rw here W }
+    where
+      here : plan ≡ withTree (length lent) (tell (held after n)) (held after n)
+      here = ap (finishedBy (length lent) tell (entries outcome)) (ended-listed E n e)
+
+-- the tree of the columns' conditions and actions is that of the list
+pub tree-held : (after : Columns) (n : ℕ) (lent tree : List ℕ) (told : Checked Size)
+    → WritesTree (withTree (length lent) (sizeOf (lines (after .conditions) (after .actions) n)) (lines (after .conditions) (after .actions) n)) lent tree told
+    → WritesTree (withTree (length lent) (sizeOf (held after n)) (held after n)) lent tree told
+tree-held after n lent tree told W =
+    let drawn = lines (after .conditions) (after .actions) n in
+    let sizes : length drawn ≡ length (held after n) = length-prefix (entryAt (after .conditions) (after .actions) [] []) n ∙ sym (held-length after n) in
+    let trees : treeBytes drawn ≡ treeBytes (held after n) = sym (tree-columns (after .conditions) (after .actions) (after .parents) (after .depths) n) in
+    subst (WritesTree (withTree (length lent) (sizeOf (held after n)) (held after n)) lent tree) (as-told told)
+    (retold (length lent) drawn (held after n) sizes trees (sizeOf drawn) (sizeOf (held after n)) (λ x. x) (rw (sizes, trees)) lent tree told W)
+  where
+    as-told : (c : Checked Size) → andThen c (λ x. accepted x) ≡ c
+    as-told (accepted s) = refl
+    as-told (refused n p) = refl
+
+-- ---- what the answer of a plan tells
+
+module _ {Told : Type 0} (until : Until) (room : ℕ) (tell : List (Entry Condition) → Told) (o : Outcome Condition) where
+  -- an accepted answer: its list, which ended as was asked, and whose tree fits
+  pub record Whole (p : Told) : Type 0 where
+    pub list : List (Entry Condition)
+    pub listed : listedBy until o ≡ accepted list
+    pub plan-is : planBy until room tell o ≡ listAndTree (tell list) list
+    pub told-is : p ≡ tell list
+
+  tree-told : (fits : Bool) (l : List (Entry Condition)) (p : Told) → (if fits then listAndTree (tell l) l else listOnly 12 l) .answer ≡ accepted p
+      → ((if fits then listAndTree (tell l) l else listOnly 12 l) ≡ listAndTree (tell l) l) × (p ≡ tell l)
+  tree-told true l p a = (refl, sym (accepted-same a))
+  tree-told false l p a = absurd (not-both a)
+
+  pub whole-told : (p : Told) → planBy until room tell o .answer ≡ accepted p → Whole p
+  whole-told p a = by-end (listedBy until o) refl a
+    where
+      by-end : (c : Checked (List (Entry Condition))) → listedBy until o ≡ c → finishedBy room tell (entries o) c .answer ≡ accepted p → Whole p
+      by-end (accepted l) e a =
+          let w = tree-told (leb (length (treeBytes l)) room) l p a in
+          record { list = l; listed = e; plan-is = ap (finishedBy room tell (entries o)) e ∙ w .0; told-is = w .1 }
+      by-end (refused n q) e a = absurd (not-both a)
+
+  -- a refusal: the list did not end as was asked, or its tree does not fit
+  abbrev pub Unfinished : ℕ → ℕ → Type 0
+  Unfinished n p =
+      (listedBy until o ≡ refused n p) ⊎ ((l : List (Entry Condition)) × (listedBy until o ≡ accepted l) × (n ≡ 12) × (p ≡ length l) × (room < length (treeBytes l)))
+
+  pub refused-told : (n p : ℕ) → planBy until room tell o .answer ≡ refused n p → Unfinished n p
+  refused-told n p a = by-end (listedBy until o) refl a
+    where
+      by-room : (l : List (Entry Condition)) → listedBy until o ≡ accepted l → (fits : Bool) → leb (length (treeBytes l)) room ≡ fits
+          → (if fits then listAndTree (tell l) l else listOnly 12 l) .answer ≡ refused n p → Unfinished n p
+      by-room l e true f a = absurd (not-both (sym a))
+      by-room l e false f a = inr (l, e, cc, cc, omega (arith, leb-false, f))
+
+      by-end : (c : Checked (List (Entry Condition))) → listedBy until o ≡ c → finishedBy room tell (entries o) c .answer ≡ refused n p → Unfinished n p
+      by-end (accepted l) e a = by-room l e (leb (length (treeBytes l)) room) refl a
+      by-end (refused m q) e a = let x : m ≡ n = cc in let y : q ≡ p = cc in inl (rw (x, y) at e)
+
+-- A plan that tells something else of the same list leaves the same in every lent slice.
+module _ {Told Other : Type 0} (until : Until) (room : ℕ) (tell : List (Entry Condition) → Told) (other : List (Entry Condition) → Other)
+    (o : Outcome Condition) (before after : Columns) (lent tree : List ℕ) where
+  pub writes-other : (p : Told) (q : Other) → WritesPlan (planBy until room tell o) before after lent tree (accepted p)
+      → ((l : List (Entry Condition)) → p ≡ tell l → l ≡ entries o → q ≡ other l) → WritesPlan (planBy until room other o) before after lent tree (accepted q)
+  writes-other p q W same =
+      let w = whole-told until room tell o p (sym (W .answer-and-tree .answer)) in
+      let fits : withTree room (tell (w .list)) (w .list) ≡ listAndTree (tell (w .list)) (w .list) =
+      sym (ap (finishedBy room tell (entries o)) (w .listed)) ∙ w .plan-is in
+      let here : planBy until room other o ≡ listAndTree (other (w .list)) (w .list) =
+      ap (finishedBy room other (entries o)) (w .listed) ∙ by-room (leb (length (treeBytes (w .list))) room) (w .list) (ap (λ (P : Plan Told). P .answer) fits) in
+      rw here (record {
+        tables = W .tables ∙ ap (λ (P : Plan Told). written (P .list) before) (w .plan-is);
+        answer-and-tree = record {
+          answer = ap accepted (same (w .list) (w .told-is) (listed-entries until o (w .list) (w .listed)));
+          tree-written = W .answer-and-tree .tree-written ∙ ap (λ (P : Plan Told). P .tree ++ drop (length (P .tree)) lent) (w .plan-is);
+        };
+      })
+    where
+      by-room : (fits : Bool) (l : List (Entry Condition)) → (if fits then listAndTree (tell l) l else listOnly 12 l) .answer ≡ accepted (tell l)
+          → (if fits then listAndTree (other l) l else listOnly 12 l) ≡ listAndTree (other l) l
+      by-room true l a = refl
+      by-room false l a = absurd (not-both a)
+
+  pub writes-refused : (n p : ℕ) → WritesPlan (planBy until room tell o) before after lent tree (refused n p)
+      → WritesPlan (planBy until room other o) before after lent tree (refused n p)
+  writes-refused n p W = by-end (listedBy until o) W
+    where
+      by-room : (fits : Bool) (l : List (Entry Condition)) → WritesPlan (if fits then listAndTree (tell l) l else listOnly 12 l) before after lent tree (refused n p)
+          → WritesPlan (if fits then listAndTree (other l) l else listOnly 12 l) before after lent tree (refused n p)
+      by-room true l W = absurd (not-both (W .answer-and-tree .answer))
+      by-room false l W = record { tables = W .tables; answer-and-tree = record { answer = cc (W .answer-and-tree .answer); tree-written = W .answer-and-tree .tree-written } }
+
+      by-end : (c : Checked (List (Entry Condition))) → WritesPlan (finishedBy room tell (entries o) c) before after lent tree (refused n p)
+          → WritesPlan (finishedBy room other (entries o) c) before after lent tree (refused n p)
+      by-end (accepted l) W = by-room (leb (length (treeBytes l)) room) l W
+      by-end (refused m q) W = record { tables = W .tables; answer-and-tree = record { answer = cc (W .answer-and-tree .answer); tree-written = W .answer-and-tree .tree-written } }
+
+-- nothing is written
+pub writes-nothing : {Told : Type 0} (n p : ℕ) (before : Columns) (lent : List ℕ) (told : Checked Told) → told ≡ refused n p
+    → WritesPlan (noPlan n p) before before lent lent told
+writes-nothing n p before lent told a = record { tables = refl; answer-and-tree = record { answer = a; tree-written = refl } }

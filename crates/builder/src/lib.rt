@@ -1,0 +1,133 @@
+// The list of a sound table's goal and its tree, put into lent tables: what every plan is made of (document 01, "Expansion", stops 10 to 12).
+use expander::Expanded;
+use expander::Until;
+use refusal::Reason;
+use refusal::Refusal;
+use table::Header;
+ghost use mathlib.Core.Path.{_≡_};
+ghost use Prim.Native.Nat.{_≤_};
+ghost use lib.ListN.{length};
+ghost use Rattle.refusal.specs.Checked.{accepted};
+ghost use Rattle.table.specs.Table.{Table};
+ghost use Rattle.table.specs.Read.{readTable, headed};
+ghost use Rattle.expander.specs.Expands.{columns, room, expandedOf, Expands};
+ghost use Rattle.flat.specs.TreeBytesLaws.{lines};
+ghost use Rattle.builder.specs.Plan.{tableActions, withTree, tablePlan, sizeOf, listedOf, builtOf, WritesTree, WritesPlan};
+
+// The entries of a list, and the bytes of its tree.
+pub struct Size {
+    pub entries: usize,
+    pub bytes: usize,
+}
+
+pub enum Built {
+    // The list and its tree.
+    Whole(Size),
+    Refused(Refusal),
+}
+
+const MAX_JOBS: usize = 128;
+
+// Lists the conditions from which the jobs of a sound table lead to its goal, up to the first that ends the list.
+fn expand_goal(
+    table: &[u8],
+    header: Header,
+    until: Until,
+    conditions: &mut [u64],
+    actions: &mut [u8],
+    parents: &mut [u16],
+    depths: &mut [u16],
+) -> Expanded
+    requires { ⌜ accepted header ≡ headed (readTable (now table)) ⌝ }
+    ensures { λ r. ⌜ ((t : Table) → accepted t ≡ readTable (now (table .entry)) → Expands (tableActions t) (t .goal) until
+        (columns (now (conditions .entry)) (now (actions .entry)) (now (parents .entry)) (now (depths .entry)))
+        (columns (now (conditions .exit)) (now (actions .exit)) (now (parents .exit)) (now (depths .exit))) r) ⌝ }
+{
+    let count = header.jobs;
+    let goal = header.goal;
+    let mut needs = [0u64; MAX_JOBS];
+    let mut adds = [0u64; MAX_JOBS];
+    let mut deletes = [0u64; MAX_JOBS];
+    let mut seconds = [0u16; MAX_JOBS];
+    job_rows::load_jobs(table, count, &mut needs, &mut adds, &mut deletes, &mut seconds);
+    expander::expand(
+        &needs[..count],
+        &adds[..count],
+        &deletes[..count],
+        goal,
+        until,
+        conditions,
+        actions,
+        parents,
+        depths,
+    )
+}
+
+// A list that ended as was asked, with its number of entries.
+pub enum Listed {
+    Entries(usize),
+    Refused(Refusal),
+}
+
+fn refuse(reason: Reason, place: usize) -> Listed
+    ensures { λ r. ⌜ r ≡ Listed.Refused (record { reason = reason; place = place }) ⌝ }
+{
+    Listed::Refused(Refusal { reason, place })
+}
+
+// Without a start there is no way to miss: every entry expanded is what was asked for.
+fn listed(until: Until, expanded: Expanded) -> Listed
+    ensures { λ r. ⌜ listedOf r ≡ expandedOf until expanded ⌝ }
+{
+    match expanded {
+        Expanded::Full(n) => refuse(Reason::ListFull, n),
+        Expanded::Covered(n) => Listed::Entries(n),
+        Expanded::Exhausted(n) => match until {
+            Until::Covers(_) => refuse(Reason::NoWay, n),
+            Until::Never => Listed::Entries(n),
+        },
+    }
+}
+
+// Writes the tree of the list's first n entries, where it has room.
+fn fit_tree(n: usize, conditions: &[u64], actions: &[u8], tree: &mut [u8]) -> Built
+    requires { ⌜ (1 ≤ n) × (n ≤ 4096) × (n ≤ length (now conditions)) × (n ≤ length (now actions)) ⌝ }
+    ensures { λ r. ⌜ WritesTree
+        (withTree (length (now (tree .entry))) (sizeOf (lines (now (conditions .entry)) (now (actions .entry)) n)) (lines (now (conditions .entry)) (now (actions .entry)) n))
+        (now (tree .entry)) (now (tree .exit)) (builtOf r) ⌝ }
+{
+    let bytes = flat::ENTRY * n - 1;
+    if tree.len() < bytes {
+        return Built::Refused(Refusal {
+            reason: Reason::TreeTooShort,
+            place: n,
+        });
+    }
+    flat::write_tree(n, conditions, actions, tree);
+    Built::Whole(Size { entries: n, bytes })
+}
+
+// The list up to what ends it, and its tree, of a table that was read.
+pub fn build(
+    table: &[u8],
+    header: Header,
+    until: Until,
+    conditions: &mut [u64],
+    actions: &mut [u8],
+    parents: &mut [u16],
+    depths: &mut [u16],
+    tree: &mut [u8],
+) -> Built
+    requires { ⌜ accepted header ≡ headed (readTable (now table)) ⌝ }
+    ensures { λ r. ⌜ ((t : Table) → accepted t ≡ readTable (now (table .entry)) → WritesPlan
+        (tablePlan until t (room (columns (now (conditions .entry)) (now (actions .entry)) (now (parents .entry)) (now (depths .entry)))) (length (now (tree .entry))) sizeOf)
+        (columns (now (conditions .entry)) (now (actions .entry)) (now (parents .entry)) (now (depths .entry)))
+        (columns (now (conditions .exit)) (now (actions .exit)) (now (parents .exit)) (now (depths .exit)))
+        (now (tree .entry)) (now (tree .exit)) (builtOf r)) ⌝ }
+{
+    let expanded = expand_goal(table, header, until, conditions, actions, parents, depths);
+    match listed(until, expanded) {
+        Listed::Refused(x) => Built::Refused(x),
+        Listed::Entries(n) => fit_tree(n, conditions, actions, tree),
+    }
+}
