@@ -5,7 +5,8 @@ use mathlib.Core.Bool.{Bool, not, _&&_}
 use mathlib.Core.List.{List}
 use Prim.Native.Nat.{ℕ}
 use lib.ListN.{getD}
-use Rattle.masks.specs.Sets.{subset, intersects, union, difference}
+use lib.Dec.{T}
+use Rattle.masks.specs.Sets.{subset, intersects, union, difference, within}
 use Rattle.conditions.specs.declared.Action.{Action}
 
 -- the facts that are to hold, as a mask
@@ -35,6 +36,17 @@ relevant a c = intersects (a .adds) c && not (intersects (a .deletes) c)
 -- "The new condition is its needs together with c without its adds."
 unfoldable pub regressed : Action → Condition → Condition
 regressed a c = union (a .needs) (difference c (a .adds))
+
+-- ---- within the facts of a table
+
+-- the condition asks for no fact at or above f
+abbrev pub conditionWithin : ℕ → Condition → Bool
+conditionWithin f c = within f c
+
+-- The action needs and adds no fact at or above f. Of its deletes nothing is asked: they only take facts away.
+pub record ActionWithin (f : ℕ) (a : Action) : Type 0 where
+  pub needs-within : T (conditionWithin f (needed a))
+  pub adds-within : T (within f (a .adds))
 
 -- action i of rows of masks, which hold no facts past their ends
 abbrev pub actionAt : List ℕ → List ℕ → List ℕ → ℕ → Action

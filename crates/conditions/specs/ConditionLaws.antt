@@ -10,7 +10,7 @@ use Rattle.masks.specs.Sets.{bit, subset, intersects, union, difference, within
 use Rattle.masks.specs.Bits.{bit-le, bit-union, bit-difference, subset-bits, bits-subset, disjoint-bits, bits-disjoint}
 use Rattle.masks.specs.Laws.{subset-refl, subset-trans, within-union, within-difference}
 use Rattle.conditions.specs.declared.Action.{Action}
-use Rattle.conditions.specs.Condition.{Condition, weaker, satisfied, needed, applied, relevant, regressed}
+use Rattle.conditions.specs.Condition.{Condition, weaker, satisfied, needed, applied, relevant, regressed, conditionWithin, ActionWithin}
 
 pub weaker-refl : (c : Condition) → T (weaker c c)
 unfolding weaker
@@ -89,11 +89,15 @@ module _ (a : Action) (s : ℕ) where
 
 -- ---- neither leaves the facts of the table
 
-module _ (f : ℕ) (a : Action) where
-  pub applied-within : (s : ℕ) → T (within f (a .adds)) → T (within f s) → T (within f (applied a s))
+module _ (f : ℕ) (a : Action) (w : ActionWithin f a) where
+  pub applied-within : (s : ℕ) → T (within f s) → T (within f (applied a s))
   unfolding applied
-  applied-within s p q = within-difference f (union s (a .adds)) (a .deletes) (within-union f s (a .adds) q p)
+  applied-within s q = within-difference f (union s (a .adds)) (a .deletes) (within-union f s (a .adds) q (w .adds-within))
 
-  pub regressed-within : (c : Condition) → T (within f (a .needs)) → T (within f c) → T (within f (regressed a c))
+  pub regressed-within : (c : Condition) → T (conditionWithin f c) → T (conditionWithin f (regressed a c))
   unfolding regressed
-  regressed-within c p q = within-union f (a .needs) (difference c (a .adds)) p (within-difference f c (a .adds) q)
+  regressed-within c q = within-union f (a .needs) (difference c (a .adds)) (w .needs-within) (within-difference f c (a .adds) q)
+
+-- the state that holds just a condition is one of the table's
+pub itself-within : (f : ℕ) (c : Condition) → T (conditionWithin f c) → T (within f c)
+itself-within f c t = t

@@ -17,7 +17,7 @@ use Rattle.reading.specs.ReadingLaws.{sound-held, sound-unread, sound-apart, ab
 use Rattle.conditions.specs.declared.Action.{Action}
 use Rattle.conditions.specs.declared.Evaluation.{Evaluation}
 use Rattle.conditions.specs.declared.Evaluation.the-variants.{Met, Missed, Open}
-use Rattle.conditions.specs.Condition.{Condition, satisfied, needed, applied}
+use Rattle.conditions.specs.Condition.{Condition, satisfied, needed, applied, regressed, ActionWithin}
 use Rattle.conditions.specs.OnReading.{evaluated, applicable, finished, Confirmed}
 use Rattle.conditions.specs.ConditionLaws.{applied-within}
 
@@ -112,6 +112,18 @@ module _ (r : Reading) (c : Condition) (s : ℕ) (fills : Completes r s) where
       by-tests t true false q u v = let z : _≡_ {A = ℕ} 0 1 = cc in omega arith
       by-tests t false u q w v = T-not (subset c (union (r .held) (r .unread))) (fails _ q) (subset-trans c s (union (r .held) (r .unread)) t (fills .adds-unread))
 
+-- ---- what a confirmed condition confirms
+
+-- where what an action makes of a condition is confirmed, so is what the action needs
+pub regressed-confirmed : (r : Reading) (a : Action) (c : Condition) → Confirmed r (regressed a c) → Confirmed r (needed a)
+unfolding regressed
+regressed-confirmed r a c k =
+    let part = subset-union-left (a .needs) (difference c (a .adds)) in
+    record {
+      held = subset-trans (a .needs) (regressed a c) (r .held) part (k .held);
+      read = disjoint-subset (a .needs) (r .unread) (regressed a c) (r .unread) part (subset-refl (r .unread)) (k .read);
+    }
+
 -- ---- what is open is met in one way of filling in the unread facts, and missed in another
 
 module _ (r : Reading) (apart : T (not (intersects (r .held) (r .unread)))) (c : Condition) (m : ℕ) (e : evaluated r c ≡ Open m) where
@@ -194,10 +206,10 @@ module _ (a : Action) where
         may-hold i h = rw (bit-applied, bit-union, at-held i, at-unread i) h
 
     -- and it leaves a sound reading sound, where it adds only facts of the table
-    pub finished-sound : (f : ℕ) → T (within f (a .adds)) → T (sound f r) → T (sound f (finished a r))
+    pub finished-sound : (f : ℕ) → ActionWithin f a → T (sound f r) → T (sound f (finished a r))
     unfolding sound finished
-    finished-sound f adds t =
-        and-intro (within f (finished a r .held)) _ (applied-within f a (r .held) adds (sound-held f r t))
+    finished-sound f w t =
+        and-intro (within f (finished a r .held)) _ (applied-within f a w (r .held) (sound-held f r t))
         (and-intro (within f (finished a r .unread)) _ (within-difference f _ (a .deletes) (within-difference f (r .unread) (a .adds) (sound-unread f r t)))
         (bits-disjoint (finished a r .held) (finished a r .unread)
         (λ i. omega (arith, at-held i, at-unread i, disjoint-bits (r .held) (r .unread) (sound-apart f r t) i, bit-le (r .held) i, bit-le (a .adds) i))))

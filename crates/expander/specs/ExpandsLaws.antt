@@ -7,9 +7,8 @@ use Prim.Native.Nat.{ℕ, suc, _≤_, _<_}
 use native.Mathlib.Omega.{arith}
 use lib.Dec.{T}
 use lib.ListN.{length, getD}
-use Rattle.masks.specs.Sets.{within}
 use Rattle.refusal.specs.Checked.{accepted, andThen}
-use Rattle.conditions.specs.Condition.{Condition}
+use Rattle.conditions.specs.Condition.{Condition, conditionWithin}
 use Rattle.planning.specs.Domain.{Domain}
 use Rattle.planning.specs.Sequence.{Reaches}
 use Rattle.planning.specs.Listing.{Derived}
@@ -163,7 +162,7 @@ module _ {A : Actions} {goal : Condition} {until : Until} {before after : Column
         omega (arith, e, planned-depth (fact-plannable A goal) (room before) (endedBy until) i inside)
 
     -- the conditions are sets of the table's facts
-    pub stored-within : (f : ℕ) → WithinFacts f A goal → T (within f (getD (after .conditions) i 0))
+    pub stored-within : (f : ℕ) → WithinFacts f A goal → T (conditionWithin f (getD (after .conditions) i 0))
     stored-within f W = rw (ap (λ x. x .condition) (entry-held i h)) (condition-within A goal (room before) (endedBy until) f W i inside)
 
     module _ (later : 0 < i) where

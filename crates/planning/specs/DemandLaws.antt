@@ -118,6 +118,10 @@ module _ {State Condition : Type 0} {D : Domain State Condition ℕ} {count : �
   pub planned-fits : length (entries planned) ≤ capacity
   planned-fits = known-fits planned known
 
+  -- a full list has as many entries as the capacity
+  pub planned-full : (l : List (Entry Condition)) → planned ≡ full l → length l ≡ capacity
+  planned-full l e = let k : Known (full l) = subst Known e known in k .size
+
   pub planned-good : 0 < length (entries planned) → Good D (listing D (entries planned)) (length (entries planned))
   planned-good h = known-progress planned known h .2 .good
 

@@ -10,8 +10,8 @@ use lib.ListN.{length}
 use Rattle.base.specs.Bools.{and-intro, and-left, and-right}
 use Rattle.masks.specs.Sets.{within}
 use Rattle.conditions.specs.declared.Action.{Action}
-use Rattle.conditions.specs.Condition.{Condition, satisfied, relevant}
-use Rattle.conditions.specs.ConditionLaws.{weaker-refl, weaker-satisfied, satisfied-itself, satisfied-weaker, irrelevant-kept, regressed-held, regressed-applicable, relevant-achieves, applied-within, regressed-within}
+use Rattle.conditions.specs.Condition.{Condition, satisfied, relevant, conditionWithin}
+use Rattle.conditions.specs.ConditionLaws.{weaker-refl, weaker-satisfied, satisfied-itself, satisfied-weaker, irrelevant-kept, regressed-held, regressed-applicable, relevant-achieves, applied-within, regressed-within, itself-within}
 use Rattle.planning.specs.Domain.{Domain, Laws, Plannable}
 use Rattle.planning.specs.Sequence.{Answer, Reaches}
 use Rattle.planning.specs.Expansion.{Entry, exhausted, covered, entries, entryIn, expand}
@@ -79,19 +79,19 @@ module _ (A : Actions) (goal : Condition) where
     module _ (f : ℕ) (W : WithinFacts f A goal) where
       -- a finished action leaves a state
       pub result-within : (a s : ℕ) → T (D .applicable a s) → T (within f s) → T (within f (D .result a s))
-      result-within a s t = applied-within f (A .action a) s (W .adds-within a (number A a _ t))
+      result-within a s t = applied-within f (A .action a) (W .actions-within a (number A a _ t)) s
 
       -- each listed condition is a set of the table's facts
-      pub condition-within : (i : ℕ) → i < length planned → T (within f (entryIn D planned i .condition))
+      pub condition-within : (i : ℕ) → i < length planned → T (conditionWithin f (entryIn D planned i .condition))
       condition-within =
-          planned-condition fact-plannable capacity stop (λ c. T (within f c)) (W .goal-within)
-          (λ a c t. regressed-within f (A .action a) c (W .needs-within a (fact-plannable .below-count a c t)))
+          planned-condition fact-plannable capacity stop (λ c. T (conditionWithin f c)) (W .goal-within)
+          (λ a c t. regressed-within f (A .action a) (W .actions-within a (fact-plannable .below-count a c t)) c)
 
       -- document 02's dead lines: there are none, since each entry is the first one met in at least one state
       pub fact-irredundant : (i : ℕ) → i < length planned → (s : ℕ) × T (within f s) × FirstIn D planned s i
       fact-irredundant i h =
           let c = entryIn D planned i .condition in
-          (c, condition-within i h, irredundant fact-plannable capacity stop i h c (satisfied-itself c) (λ k l m. satisfied-weaker c _ m))
+          (c, itself-within f c (condition-within i h), irredundant fact-plannable capacity stop i h c (satisfied-itself c) (λ k l m. satisfied-weaker c _ m))
 
       -- demand 3 for every tick that answers, in each state, as the tick of the list does
       pub fact-fewest-by : (tick : ℕ → Answer ℕ) → ((s : ℕ) → T (within f s) → tick s ≡ tickList D planned s)

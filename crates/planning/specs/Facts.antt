@@ -4,9 +4,8 @@
 use mathlib.Core.Bool.{Bool, true, false, _&&_}
 use Prim.Native.Nat.{ℕ, _<_}
 use lib.Dec.{T, ltb}
-use Rattle.masks.specs.Sets.{within}
 use Rattle.conditions.specs.declared.Action.{Action}
-use Rattle.conditions.specs.Condition.{Condition, weaker, satisfied, needed, applied, relevant, regressed}
+use Rattle.conditions.specs.Condition.{Condition, weaker, satisfied, needed, applied, relevant, regressed, conditionWithin, ActionWithin}
 use Rattle.planning.specs.Domain.{Domain}
 use Rattle.planning.specs.Expansion.{Outcome, expand}
 
@@ -48,8 +47,7 @@ startPlan A goal capacity start = factPlan A goal capacity (λ c. satisfied c st
 abbrev pub shiftPlan : Actions → Condition → ℕ → Outcome Condition
 shiftPlan A goal capacity = factPlan A goal capacity (λ c. false)
 
--- The goal, the needs and the adds have no bit at or above f. Of the deletes nothing is asked: they only take facts away.
+-- the goal and the actions keep to the facts below f
 pub record WithinFacts (f : ℕ) (A : Actions) (goal : Condition) : Type 0 where
-  pub goal-within : T (within f goal)
-  pub needs-within : (a : ℕ) → a < A .count → T (within f (A .action a .needs))
-  pub adds-within : (a : ℕ) → a < A .count → T (within f (A .action a .adds))
+  pub goal-within : T (conditionWithin f goal)
+  pub actions-within : (a : ℕ) → a < A .count → ActionWithin f (A .action a)

@@ -1,0 +1,4 @@
+pub mod Plan
+pub mod Works
+pub mod PlanLaws
+pub mod WorksLaws

@@ -1,0 +1,92 @@
+-- Every plan for the whole shift keeps its promises.
+-- Assumes nothing.
+use Prim.Native.Nat.{ℕ, _≤_}
+use native.Mathlib.Omega.{arith}
+use mathlib.Core.Path.{_≡_, refl, sym, ap, _∙_}
+use mathlib.Core.Bool.{false}
+use mathlib.Core.List.{List}
+use mathlib.Core.Logic.{_↔_, ⊎-elim}
+use lib.ListN.{length}
+use Rattle.refusal.specs.Checked.{accepted, refused}
+use Rattle.refusal.specs.CheckedLaws.{not-both, accepted-same}
+use Rattle.conditions.specs.Condition.{Condition}
+use Rattle.numbers.specs.NumberLaws.{AreBytes}
+use Rattle.table.specs.Table.{Table}
+use Rattle.table.specs.Read.{readTable}
+use Rattle.planning.specs.Sequence.{Reaches}
+use Rattle.planning.specs.Expansion.{Entry, Outcome, exhausted, covered, full, entries}
+use Rattle.planning.specs.Demand.{CoveredBy}
+use Rattle.planning.specs.DemandLaws.{exhausted-nonempty}
+use Rattle.planning.specs.Facts.{shiftPlan}
+use Rattle.planning.specs.FactLaws.{fact-plannable, fact-covered-iff, fact-unending}
+use Rattle.expander.specs.declared.Until.the-variants.{Never}
+use Rattle.expander.specs.Expands.{Columns, room, listedBy}
+use Rattle.expander.specs.ExpandsLaws.{capacity-most}
+use Rattle.builder.specs.declared.Size.{Size}
+use Rattle.builder.specs.declared.Built.{Built}
+use Rattle.builder.specs.Plan.{tableActions, tableDomain, Plan, planBy, tablePlan, sizeOf, builtOf, WritesPlan}
+use Rattle.builder.specs.PlanLaws.{plan-list, whole-told}
+use Rattle.builder.specs.Works.{FewestJobs, Irredundant, NoRoom}
+use Rattle.builder.specs.WorksLaws.{list-irredundant, list-works, plan-stops}
+use Rattle.shift_planner.specs.Shift.{planShift, Serves, PlansShift}
+
+-- nothing ends the list early, so every entry is expanded
+exhausted-told : (o : Outcome Condition) (l : List (Entry Condition)) → ((m : List (Entry Condition)) → o ≡ covered m → ⊥) → listedBy Never o ≡ accepted l
+    → o ≡ exhausted l
+exhausted-told (full m) l u e = absurd (not-both e)
+exhausted-told (exhausted m) l u e = ap exhausted (accepted-same e)
+exhausted-told (covered m) l u e = absurd (u m refl)
+
+never-11 : (o : Outcome Condition) (p : ℕ) → listedBy Never o ≡ refused 11 p → ⊥
+never-11 (full l) p e = let z : _≡_ {A = ℕ} 10 11 = cc in omega arith
+never-11 (exhausted l) p e = not-both (sym e)
+never-11 (covered l) p e = not-both (sym e)
+
+module _ (table : List ℕ) (b : AreBytes table) (t : Table) (e : readTable table ≡ accepted t) (capacity size : ℕ) (few : capacity ≤ 4096) where
+  abbrev outcome : Outcome Condition
+  outcome = shiftPlan (tableActions t) (t .goal) capacity
+
+  abbrev whole : Plan Size
+  whole = planBy Never size sizeOf outcome
+
+  read : planShift table capacity size ≡ whole
+  unfolding planShift tablePlan
+  read = rw e
+
+  -- the list of an accepted plan, and that every entry of it is expanded
+  ended : (p : Size) → whole .answer ≡ accepted p → (l : List (Entry Condition)) × (outcome ≡ exhausted l) × (whole .list ≡ l)
+  ended p a =
+      let w = whole-told Never size sizeOf outcome p a in
+      (w .list, exhausted-told outcome (w .list) (fact-unending (tableActions t) (t .goal) capacity) (w .listed), ap (λ (P : Plan Size). P .list) (w .plan-is))
+
+  works : (p : Size) → whole .answer ≡ accepted p → FewestJobs t table (whole .list) (whole .tree)
+  works p a =
+      let w = whole-told Never size sizeOf outcome p a in
+      let x = ended p a in
+      rw (w .plan-is) (list-works table b t e capacity Never few (w .list)
+      (exhausted-nonempty (fact-plannable (tableActions t) (t .goal)) capacity (λ c. false) (w .list) (x .1)) (ap entries (x .1)))
+
+  covers : (p : Size) → whole .answer ≡ accepted p → (s : ℕ) → CoveredBy (tableDomain t) (whole .list) s ↔ ((w : List ℕ) × Reaches (tableDomain t) s w)
+  covers p a = let x = ended p a in rw (x .2) (fact-covered-iff (tableActions t) (t .goal) capacity (λ c. false) (x .0) (x .1))
+
+  stops : (n p : ℕ) → whole .answer ≡ refused n p → NoRoom capacity size (whole .list) n p
+  stops n p a =
+      ⊎-elim (λ f. absurd (never-11 outcome p (rw (f .0) at (f .2)))) (λ f. f) (plan-stops table b t e capacity Never size sizeOf n p a)
+
+  pub every-shift : Serves t table capacity size (planShift table capacity size)
+  every-shift =
+      rw read (record {
+        works = works;
+        covers = covers;
+        stops = stops;
+        irredundant = rw (plan-list Never size sizeOf outcome) (list-irredundant table b t e capacity Never);
+      })
+
+pub shift-kept : (table : List ℕ) → AreBytes table → (before after : Columns) (lent tree : List ℕ) (r : Built)
+    → WritesPlan (planShift table (room before) (length lent)) before after lent tree (builtOf r) → PlansShift table before after lent tree r
+shift-kept table b before after lent tree r w =
+    record {
+      writes = w;
+      serves = λ t e. every-shift table b t e (room before) (length lent)
+          (capacity-most (length (before .conditions)) (length (before .actions)) (length (before .parents)) (length (before .depths)));
+    }
