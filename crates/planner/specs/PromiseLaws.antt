@@ -18,7 +18,7 @@ use Rattle.refusal.specs.CheckedLaws.{not-both, accepted-same}
 use Rattle.reading.specs.declared.Reading.{Reading}
 use Rattle.reading.specs.Reading.{sound, Completes, state}
 use Rattle.reading.specs.ReadingLaws.{sound-apart, completes-within, absent-completes, held-completes, state-sound}
-use Rattle.commands.specs.NumberLaws.{AreBytes}
+use Rattle.numbers.specs.Numbers.{AreBytes}
 use Rattle.table.specs.Table.{Table}
 use Rattle.table.specs.Read.{readTable}
 use Rattle.table.specs.RoundTrip.{read-sound}
