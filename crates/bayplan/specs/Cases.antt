@@ -7,7 +7,7 @@ use lib.ListN.{take}
 use Rattle.masks.specs.Sets.{subset, intersects, union, difference, within}
 use Rattle.masks.specs.Effects.{relevant, regressed}
 use Rattle.commands.specs.Commands.{widthOf, commandAt}
-use Rattle.commands.specs.Numbers.{fromBytes, toBytes, numberAt}
+use Rattle.numbers.specs.Numbers.{fromBytes, toBytes, numberAt}
 use Rattle.reading.specs.Reading.{sound}
 use Rattle.table.specs.Read.{due, jobAt, judged, readEnd, readGoal, readJobs, readTable}
 use Rattle.table_writer.specs.Trailer.{trailerBytes}

@@ -18,7 +18,7 @@ use Rattle.commands.specs.declared.Width.{Width}
 use Rattle.commands.specs.declared.Width.the-variants.{Bytes, NoCommand}
 use Rattle.commands.specs.declared.Found.the-variants.{Whole, Cut}
 use Rattle.commands.specs.Commands.{GOAL, commands, widthIn, widthOf, operandsAt, commandAt}
-use Rattle.commands.specs.Numbers.{fromBytes, numberAt}
+use Rattle.numbers.specs.Numbers.{fromBytes, numberAt}
 use Rattle.table.specs.declared.Job.{Job}
 use Rattle.table.specs.declared.Stage.{Stage}
 use Rattle.table.specs.declared.Stage.the-variants.{First, Middle, Last}

@@ -67,8 +67,8 @@ fn start_of(start: &[u8]) -> Reading
     if start.len() != START_SIZE {
         return Reading { held: 1, unread: 1 };
     }
-    let held = commands::read_u64(start, 0);
-    let unread = commands::read_u64(start, 8);
+    let held = numbers::read_u64(start, 0);
+    let unread = numbers::read_u64(start, 8);
     Reading { held, unread }
 }
 

@@ -15,7 +15,7 @@ use Rattle.masks.specs.Laws.{subset-refl, subset-trans, subset-union-left, disj
 use Rattle.masks.specs.Effects.{applied, applied-within}
 use Rattle.refusal.specs.Checked.{Checked, accepted, refused, andThen}
 use Rattle.refusal.specs.CheckedLaws.{not-both, accepted-same, accepted-then, accepted-if, accepted-unless}
-use Rattle.commands.specs.NumberLaws.{AreBytes}
+use Rattle.numbers.specs.Numbers.{AreBytes}
 use Rattle.reading.specs.declared.Reading.{Reading}
 use Rattle.reading.specs.Reading.{sound, Completes, state}
 use Rattle.reading.specs.ReadingLaws.{sound-held, sound-unread, sound-apart}

@@ -1,5 +1,5 @@
 -- Document 01, "Commands": "Each command is one byte with operands of fixed width. One table gives the operand width of every command."
--- Assumes nothing.
+-- Definitions only.
 use Prim.Native.Nat.{ℕ, _+_}
 use mathlib.Core.List.{List, [], _∷_}
 use lib.Dec.{eqb, ltb, leb}
@@ -52,6 +52,58 @@ commands =
     ∷ record { byte = END-OF-TREE; width = 0 }
     ∷ []
 
+-- the bytes that a command takes, its own and its operands'
+abbrev pub sizeIn : List Command → ℕ → ℕ
+sizeIn [] byte = 0
+sizeIn (c ∷ cs) byte = if eqb (c .byte) byte then 1 + c .width else sizeIn cs byte
+
+abbrev pub FACTS-SIZE : ℕ
+FACTS-SIZE = sizeIn commands FACTS
+
+abbrev pub JOB-SIZE : ℕ
+JOB-SIZE = sizeIn commands JOB
+
+abbrev pub GOAL-SIZE : ℕ
+GOAL-SIZE = sizeIn commands GOAL
+
+abbrev pub END-OF-TABLE-SIZE : ℕ
+END-OF-TABLE-SIZE = sizeIn commands END-OF-TABLE
+
+abbrev pub FALLBACK-SIZE : ℕ
+FALLBACK-SIZE = sizeIn commands FALLBACK
+
+abbrev pub SEQUENCE-SIZE : ℕ
+SEQUENCE-SIZE = sizeIn commands SEQUENCE
+
+abbrev pub CONDITION-SIZE : ℕ
+CONDITION-SIZE = sizeIn commands CONDITION
+
+abbrev pub JOB-LEAF-SIZE : ℕ
+JOB-LEAF-SIZE = sizeIn commands JOB-LEAF
+
+abbrev pub END-OF-TREE-SIZE : ℕ
+END-OF-TREE-SIZE = sizeIn commands END-OF-TREE
+
+-- where the first operand of a command stands, from its byte on
+abbrev pub OPERANDS-AT : ℕ
+OPERANDS-AT = 1
+
+-- where the operands of a JOB stand, from its byte on: "needs, adds, deletes (8 bytes each), seconds (2 bytes)"
+abbrev pub MASK-WIDTH : ℕ
+MASK-WIDTH = 8
+
+abbrev pub NEEDS-AT : ℕ
+NEEDS-AT = OPERANDS-AT
+
+abbrev pub ADDS-AT : ℕ
+ADDS-AT = NEEDS-AT + MASK-WIDTH
+
+abbrev pub DELETES-AT : ℕ
+DELETES-AT = ADDS-AT + MASK-WIDTH
+
+abbrev pub SECONDS-AT : ℕ
+SECONDS-AT = DELETES-AT + MASK-WIDTH
+
 -- the width that a list of commands gives a byte
 abbrev pub widthIn : List Command → ℕ → Width
 widthIn [] byte = NoCommand
@@ -60,7 +112,12 @@ widthIn (c ∷ cs) byte = if eqb (c .byte) byte then Bytes (c .width) else width
 unfoldable pub widthOf : ℕ → Width
 widthOf byte = widthIn commands byte
 
--- a command byte at an offset, judged by the bytes left for its operands
+-- what was read at an offset, and the offset past it
+pub record Past (A : Type 0) : Type 0 where
+  pub value : A
+  pub next : ℕ
+
+-- a command byte at an offset, by the bytes that are left for its operands
 abbrev pub operandsAt : List ℕ → ℕ → Width → Found
 operandsAt s at NoCommand = Unknown
 operandsAt s at (Bytes w) = if leb (at + 1 + w) (length s) then Whole (getD s at 0) (at + 1 + w) else Cut (getD s at 0)

@@ -1,4 +1,2 @@
 pub mod Commands
 pub mod CommandLaws
-pub mod Numbers
-pub mod NumberLaws

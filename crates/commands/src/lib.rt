@@ -1,11 +1,7 @@
-// The command bytes of tables and trees with the widths of their operands, and the numbers that stand in operands
-// (document 01, "Commands"). Every reader and writer takes widths from here.
+// The command bytes of tables and trees with the widths of their operands (document 01, "Commands"). Every reader and writer takes
+// sizes and places of operands from here.
 ghost use mathlib.Core.Path.{_≡_};
-ghost use Prim.Native.Nat.{_+_, _≤_, _<_};
-ghost use lib.ListN.{length};
-ghost use lib.Seq.{sets};
 ghost use Rattle.commands.specs.Commands.{widthOf, commandAt};
-ghost use Rattle.commands.specs.Numbers.{toBytes, numberAt};
 
 pub const FACTS: u8 = 0x10;
 
@@ -31,7 +27,8 @@ pub struct Command {
     pub width: usize,
 }
 
-const COUNT: usize = 9;
+// How many commands there are.
+pub const COUNT: usize = 9;
 
 pub const COMMANDS: [Command; COUNT] = [
     Command {
@@ -91,6 +88,21 @@ pub const JOB_LEAF_SIZE: usize = 1 + COMMANDS[7].width;
 
 pub const END_OF_TREE_SIZE: usize = 1 + COMMANDS[8].width;
 
+// A mask takes as many bytes as GOAL's operand, which is one.
+pub const MASK_WIDTH: usize = COMMANDS[2].width;
+
+// Where the first operand of a command stands, from its byte on.
+pub const OPERANDS_AT: usize = 1;
+
+// Where the operands of a JOB stand, from its byte on.
+pub const NEEDS_AT: usize = OPERANDS_AT;
+
+pub const ADDS_AT: usize = NEEDS_AT + MASK_WIDTH;
+
+pub const DELETES_AT: usize = ADDS_AT + MASK_WIDTH;
+
+pub const SECONDS_AT: usize = DELETES_AT + MASK_WIDTH;
+
 pub enum Width {
     Bytes(usize),
     NoCommand,
@@ -143,63 +155,4 @@ pub fn command_at(s: &[u8], at: usize) -> Found
             }
         }
     }
-}
-
-fn wide(x: u8) -> u16
-    ensures { λ r. ⌜ (r ≡ x) × (r < 256) ⌝ }
-{
-    x as u16
-}
-
-// The two bytes from an offset on, least byte first.
-pub fn read_u16(s: &[u8], at: usize) -> u16
-    requires { ⌜ at + 2 ≤ length (now s) ⌝ }
-    ensures { λ r. ⌜ r ≡ numberAt 2 (now (s .entry)) at ⌝ }
-{
-    wide(s[at]) + wide(s[at + 1]) * 256
-}
-
-fn read_u32(s: &[u8], at: usize) -> u32
-    requires { ⌜ at + 4 ≤ length (now s) ⌝ }
-    ensures { λ r. ⌜ r ≡ numberAt 4 (now (s .entry)) at ⌝ }
-{
-    let low = read_u16(s, at);
-    let high = read_u16(s, at + 2);
-    low as u32 + high as u32 * 65_536
-}
-
-// The eight bytes from an offset on, least byte first.
-pub fn read_u64(s: &[u8], at: usize) -> u64
-    requires { ⌜ at + 8 ≤ length (now s) ⌝ }
-    ensures { λ r. ⌜ r ≡ numberAt 8 (now (s .entry)) at ⌝ }
-{
-    let low = read_u32(s, at);
-    let high = read_u32(s, at + 4);
-    low as u64 + high as u64 * 4_294_967_296
-}
-
-// Two bytes from an offset on, least byte first.
-pub fn write_u16(s: &mut [u8], at: usize, v: u16)
-    requires { ⌜ at + 2 ≤ length (now s) ⌝ }
-    ensures { λ _. ⌜ now (s .exit) ≡ sets (now (s .entry)) at (toBytes 2 v) ⌝ }
-{
-    s[at] = (v % 256) as u8;
-    s[at + 1] = (v / 256) as u8;
-}
-
-fn write_u32(s: &mut [u8], at: usize, v: u32)
-    requires { ⌜ at + 4 ≤ length (now s) ⌝ }
-    ensures { λ _. ⌜ now (s .exit) ≡ sets (now (s .entry)) at (toBytes 4 v) ⌝ }
-{
-    write_u16(s, at, (v % 65_536) as u16);
-    write_u16(s, at + 2, (v / 65_536) as u16);
-}
-
-// Eight bytes from an offset on, least byte first.
-pub fn write_u64(s: &mut [u8], at: usize, v: u64)
-    requires { ⌜ at + 8 ≤ length (now s) ⌝ }
-    ensures { λ _. ⌜ now (s .exit) ≡ sets (now (s .entry)) at (toBytes 8 v) ⌝ }
-{
-    write_u32(s, at, (v % 4_294_967_296) as u32);
-    write_u32(s, at + 4, (v / 4_294_967_296) as u32);
 }

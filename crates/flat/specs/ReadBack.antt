@@ -21,8 +21,8 @@ use Rattle.table.specs.Read.{readTable}
 use Rattle.commands.specs.declared.Found.the-variants.{Whole}
 use Rattle.commands.specs.Commands.{FALLBACK, SEQUENCE, CONDITION, JOB-LEAF, END-OF-TREE, widthOf, commandAt}
 use Rattle.commands.specs.CommandLaws.{at-whole}
-use Rattle.commands.specs.Numbers.{toBytes, numberAt}
-use Rattle.commands.specs.NumberLaws.{from-to, read-drop}
+use Rattle.numbers.specs.Numbers.{toBytes, numberAt}
+use Rattle.numbers.specs.NumberLaws.{from-to, read-drop}
 use Rattle.planning.specs.Expansion.{Entry}
 use Rattle.tree.specs.declared.Kind.{Kind}
 use Rattle.tree.specs.declared.Kind.the-variants.{Fallback, Sequence}

@@ -5,7 +5,7 @@ use Prim.Native.Nat.{ℕ}
 use mathlib.Core.List.{List, [], _∷_, _++_}
 use lib.ListN.{length}
 use Rattle.commands.specs.Commands.{FALLBACK, SEQUENCE, CONDITION, JOB-LEAF, END-OF-TREE}
-use Rattle.commands.specs.Numbers.{toBytes}
+use Rattle.numbers.specs.Numbers.{toBytes}
 use Rattle.planning.specs.Expansion.{Entry}
 
 unfoldable pub conditionBytes : ℕ → List ℕ

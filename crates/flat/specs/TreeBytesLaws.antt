@@ -9,8 +9,8 @@ use lib.ListN.{length, set, drop, getD, length-append}
 use lib.Seq.{sets, sets-eq}
 use Rattle.base.specs.Lists.{length-prefix}
 use Rattle.commands.specs.Commands.{FALLBACK, SEQUENCE, CONDITION, JOB-LEAF, END-OF-TREE}
-use Rattle.commands.specs.Numbers.{toBytes}
-use Rattle.commands.specs.NumberLaws.{sets-after, to-length}
+use Rattle.numbers.specs.Numbers.{toBytes}
+use Rattle.numbers.specs.NumberLaws.{sets-after, to-length}
 use Rattle.planning.specs.Expansion.{Entry}
 use Rattle.planning.specs.Columns.{entryAt, entriesOf}
 use Rattle.flat.specs.TreeBytes.{conditionBytes, laterBytes, laterEntries, treeBytes}

@@ -30,7 +30,7 @@ fn put_condition(tree: &mut [u8], at: usize, mask: u64)
     ensures { λ _. ⌜ now (tree .exit) ≡ sets (now (tree .entry)) at (conditionBytes mask) ⌝ }
 {
     tree[at] = commands::CONDITION;
-    commands::write_u64(tree, at + 1, mask);
+    numbers::write_u64(tree, at + 1, mask);
 }
 
 // An entry after the first.
@@ -39,7 +39,7 @@ fn put_later(tree: &mut [u8], at: usize, mask: u64, action: u8)
     ensures { λ _. ⌜ now (tree .exit) ≡ sets (now (tree .entry)) at (laterBytes mask action) ⌝ }
 {
     tree[at] = commands::SEQUENCE;
-    commands::write_u16(tree, at + 1, 2);
+    numbers::write_u16(tree, at + 1, 2);
     put_condition(tree, at + BRANCH, mask);
     tree[at + ACTION_AT] = commands::JOB_LEAF;
     tree[at + NUMBER_AT] = action;
@@ -65,7 +65,7 @@ pub fn write_tree(n: usize, conditions: &[u64], actions: &[u8], tree: &mut [u8])
     ensures { λ _. ⌜ now (tree .exit) ≡ treeBytes (lines (now (conditions .entry)) (now (actions .entry)) n) ++ drop (14 * n - 1) (now (tree .entry)) ⌝ }
 {
     tree[0] = commands::FALLBACK;
-    commands::write_u16(tree, 1, n as u16);
+    numbers::write_u16(tree, 1, n as u16);
     put_condition(tree, BRANCH, conditions[0]);
     put_entries(n, conditions, actions, tree);
     tree[ENTRY * n - 2] = commands::END_OF_TREE;

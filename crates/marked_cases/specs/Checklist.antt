@@ -10,7 +10,7 @@ use Rattle.masks.specs.Sets.{subset, intersects, union, difference, within}
 use Rattle.masks.specs.Effects.{applied, relevant, regressed}
 use Rattle.refusal.specs.Checked.{Checked, accepted, refused}
 use Rattle.commands.specs.Commands.{widthOf, commandAt}
-use Rattle.commands.specs.Numbers.{fromBytes, toBytes, numberAt}
+use Rattle.numbers.specs.Numbers.{fromBytes, toBytes, numberAt}
 use Rattle.reading.specs.declared.Reading.{Reading}
 use Rattle.reading.specs.Reading.{sound, state}
 use Rattle.table.specs.Read as Table

@@ -8,7 +8,7 @@ use Rattle.masks.specs.Sets.{subset, intersects, union, difference, within}
 use Rattle.masks.specs.Effects.{relevant, regressed}
 use Rattle.refusal.specs.Checked.{Checked, accepted, refused}
 use Rattle.commands.specs.Commands.{widthOf, commandAt}
-use Rattle.commands.specs.Numbers.{fromBytes, toBytes, numberAt}
+use Rattle.numbers.specs.Numbers.{fromBytes, toBytes, numberAt}
 use Rattle.reading.specs.Reading.{sound}
 use Rattle.table.specs.Read as Table
 use Rattle.table_writer.specs.Trailer.{trailerBytes}

@@ -10,7 +10,7 @@ use Prim.Native.Nat.{ℕ, zero, suc, _+_, _≤_}
 use lib.ListN.{length, set, take, drop, length-append}
 use lib.Seq.{sets, set-out, length-sets}
 use Rattle.base.specs.Lists.{prefix, length-prefix}
-use Rattle.commands.specs.NumberLaws.{sets-append}
+use Rattle.numbers.specs.NumberLaws.{sets-append}
 use Rattle.planning.specs.Expansion.{Entry}
 use Rattle.plan_text.specs.Text.{decimal, jobText, entryText, entriesText}
 use Rattle.plan_text.specs.Writes.{Put, Wrote}

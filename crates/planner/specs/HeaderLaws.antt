@@ -8,7 +8,7 @@ use mathlib.Core.List.{List}
 use lib.ListN.{length, take}
 use Rattle.refusal.specs.Checked.{Checked, accepted}
 use Rattle.refusal.specs.CheckedLaws.{accepted-same}
-use Rattle.commands.specs.NumberLaws.{AreBytes}
+use Rattle.numbers.specs.Numbers.{AreBytes}
 use Rattle.table.specs.declared.Header.{Header}
 use Rattle.table.specs.Table.{Table}
 use Rattle.table.specs.Read.{readTable, jobsOf, headed}

@@ -5,7 +5,7 @@ use native.Mathlib.Omega.{arith}
 use mathlib.Core.Path.{_≡_, ap}
 use mathlib.Core.List.{List, [], _∷_}
 use lib.ListN.{length, getD}
-use Rattle.commands.specs.NumberLaws.{AreBytes}
+use Rattle.numbers.specs.Numbers.{AreBytes}
 use Rattle.table.specs.declared.Job.{Job}
 use Rattle.table.specs.Table.{maxSeconds, noJob}
 use Rattle.table.specs.Read.{readTable, jobsOf}

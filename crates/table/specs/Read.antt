@@ -13,7 +13,7 @@ use Rattle.refusal.specs.Checked.{Checked, accepted, refused, refusedBy, andThe
 use Rattle.commands.specs.declared.Found.{Found}
 use Rattle.commands.specs.declared.Found.the-variants.{Missing, Unknown, Cut, Whole}
 use Rattle.commands.specs.Commands.{FACTS, JOB, GOAL, END-OF-TABLE, commandAt}
-use Rattle.commands.specs.Numbers.{numberAt}
+use Rattle.numbers.specs.Numbers.{numberAt}
 use Rattle.table.specs.declared.Job.{Job}
 use Rattle.table.specs.declared.Header.{Header}
 use Rattle.table.specs.declared.Stage.{Stage}

@@ -17,7 +17,7 @@ use Rattle.commands.specs.declared.Found.the-variants.{Missing, Unknown, Cut, W
 use Rattle.commands.specs.declared.Width.the-variants.{Bytes}
 use Rattle.commands.specs.Commands.{FACTS, JOB, GOAL, END-OF-TABLE, widthOf, commandAt}
 use Rattle.commands.specs.CommandLaws.{WholeAt, whole-told}
-use Rattle.commands.specs.Numbers.{numberAt}
+use Rattle.numbers.specs.Numbers.{numberAt}
 use Rattle.table.specs.declared.Job.{Job}
 use Rattle.table.specs.declared.Header.{Header}
 use Rattle.table.specs.declared.Stage.{Stage}

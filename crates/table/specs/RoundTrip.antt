@@ -18,8 +18,8 @@ use Rattle.refusal.specs.CheckedLaws.{not-both, accepted-same, accepted-then, a
 use Rattle.commands.specs.declared.Width.the-variants.{Bytes}
 use Rattle.commands.specs.Commands.{FACTS, JOB, GOAL, END-OF-TABLE, widthOf, commandAt}
 use Rattle.commands.specs.CommandLaws.{at-whole}
-use Rattle.commands.specs.Numbers.{toBytes, numberAt}
-use Rattle.commands.specs.NumberLaws.{AreBytes, from-to, to-length, read-drop, written-there, number-lt}
+use Rattle.numbers.specs.Numbers.{AreBytes, toBytes, numberAt}
+use Rattle.numbers.specs.NumberLaws.{from-to, to-length, read-drop, written-there, number-lt}
 use Rattle.table.specs.declared.Job.{Job}
 use Rattle.table.specs.declared.Stage.{Stage}
 use Rattle.table.specs.declared.Stage.the-variants.{First, Middle, Last}

@@ -3,7 +3,7 @@
 use Prim.Native.Nat.{ℕ}
 use mathlib.Core.List.{List, [], _∷_, _++_}
 use Rattle.commands.specs.Commands.{FACTS, JOB, GOAL, END-OF-TABLE}
-use Rattle.commands.specs.Numbers.{toBytes}
+use Rattle.numbers.specs.Numbers.{toBytes}
 use Rattle.conditions.specs.declared.Action.{Action}
 use Rattle.table.specs.declared.Job.{Job}
 

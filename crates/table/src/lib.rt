@@ -107,10 +107,10 @@ fn operands_at(s: &[u8], at: usize) -> Job
     requires { ⌜ at + 27 ≤ length (now s) ⌝ }
     ensures { λ r. ⌜ r ≡ jobAt (now (s .entry)) at ⌝ }
 {
-    let needs = commands::read_u64(s, at + 1);
-    let adds = commands::read_u64(s, at + 9);
-    let deletes = commands::read_u64(s, at + 17);
-    let seconds = commands::read_u16(s, at + 25);
+    let needs = numbers::read_u64(s, at + 1);
+    let adds = numbers::read_u64(s, at + 9);
+    let deletes = numbers::read_u64(s, at + 17);
+    let seconds = numbers::read_u16(s, at + 25);
     Job {
         needs,
         adds,
@@ -194,7 +194,7 @@ fn read_goal(s: &[u8], facts: u8, jobs: usize, at: usize, next: usize) -> TableR
     requires { ⌜ at + 9 ≤ length (now s) ⌝ }
     ensures { λ r. ⌜ ((js : List Job) → length js ≡ jobs → answerOf r ≡ headed (readGoal (now (s .entry)) facts js at next)) ⌝ }
 {
-    let goal = commands::read_u64(s, at + 1);
+    let goal = numbers::read_u64(s, at + 1);
     if masks::is_within(facts, goal) {
         read_end(s, Header { facts, jobs, goal }, next)
     } else {

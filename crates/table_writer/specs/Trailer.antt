@@ -8,7 +8,7 @@ use lib.ListN.{length}
 use Rattle.masks.specs.Sets.{intersects, within}
 use Rattle.refusal.specs.Checked.{accepted}
 use Rattle.commands.specs.Commands.{widthOf, commandAt}
-use Rattle.commands.specs.Numbers.{fromBytes, toBytes, numberAt}
+use Rattle.numbers.specs.Numbers.{fromBytes, toBytes, numberAt}
 use Rattle.table.specs.declared.Job.{Job}
 use Rattle.table.specs.Table.{Table, jobBytes, jobsBytes, goalBytes, tableBytes}
 use Rattle.table.specs.Read.{due, jobAt, judged, readEnd, readGoal, readJobs, readTable}

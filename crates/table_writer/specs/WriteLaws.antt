@@ -17,8 +17,8 @@ use Rattle.masks.specs.Sets.{within}
 use Rattle.refusal.specs.declared.Refusal.{Refusal}
 use Rattle.refusal.specs.Checked.{Checked, accepted, refused, refusedBy}
 use Rattle.commands.specs.Commands.{FACTS, JOB, GOAL, END-OF-TABLE}
-use Rattle.commands.specs.Numbers.{toBytes}
-use Rattle.commands.specs.NumberLaws.{sets-after, to-length}
+use Rattle.numbers.specs.Numbers.{toBytes}
+use Rattle.numbers.specs.NumberLaws.{sets-after, to-length}
 use Rattle.table.specs.declared.Job.{Job}
 use Rattle.table.specs.Table.{Table, maxJobs, noJob, jobBytes, jobsBytes, goalBytes, tableBytes}
 use Rattle.table.specs.Read.{factsInRange, judged}

@@ -103,10 +103,10 @@ fn put_job(out: &mut [u8], at: usize, job: Job)
     ensures { λ _. ⌜ now (out .exit) ≡ sets (now (out .entry)) at (jobBytes job) ⌝ }
 {
     out[at] = commands::JOB;
-    commands::write_u64(out, at + 1, job.needs);
-    commands::write_u64(out, at + 9, job.adds);
-    commands::write_u64(out, at + 17, job.deletes);
-    commands::write_u16(out, at + 25, job.seconds);
+    numbers::write_u64(out, at + 1, job.needs);
+    numbers::write_u64(out, at + 9, job.adds);
+    numbers::write_u64(out, at + 17, job.deletes);
+    numbers::write_u16(out, at + 25, job.seconds);
 }
 
 // The JOBs of a table, after FACTS and its operand.
@@ -129,7 +129,7 @@ fn put_goal(out: &mut [u8], at: usize, goal: u64)
     ensures { λ _. ⌜ now (out .exit) ≡ sets (now (out .entry)) at (goalBytes goal) ⌝ }
 {
     out[at] = commands::GOAL;
-    commands::write_u64(out, at + 1, goal);
+    numbers::write_u64(out, at + 1, goal);
     out[at + commands::GOAL_SIZE] = commands::END_OF_TABLE;
 }
 

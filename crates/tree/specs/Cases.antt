@@ -5,7 +5,7 @@ use mathlib.Core.List.{List, [], _∷_, _++_, map}
 use Rattle.masks.specs.Sets.{subset, intersects, union, within}
 use Rattle.refusal.specs.Checked.{Checked, accepted, refused}
 use Rattle.commands.specs.Commands.{FACTS, JOB, GOAL, END-OF-TABLE, FALLBACK, SEQUENCE, CONDITION, JOB-LEAF, END-OF-TREE, widthOf, commandAt}
-use Rattle.commands.specs.Numbers.{fromBytes, toBytes, numberAt}
+use Rattle.numbers.specs.Numbers.{fromBytes, toBytes, numberAt}
 use Rattle.reading.specs.declared.Reading.{Reading}
 use Rattle.reading.specs.Reading.{sound}
 use Rattle.table.specs.Read.{due, jobAt, judged, readEnd, readGoal, readJobs, readTable}

@@ -17,7 +17,7 @@ use Rattle.commands.specs.declared.Width.{Width}
 use Rattle.commands.specs.declared.Width.the-variants.{Bytes, NoCommand}
 use Rattle.commands.specs.Commands.{FALLBACK, SEQUENCE, CONDITION, JOB-LEAF, END-OF-TREE, widthOf, commandAt}
 use Rattle.commands.specs.CommandLaws.{at-missing, at-unknown, at-whole, at-cut}
-use Rattle.commands.specs.Numbers.{numberAt}
+use Rattle.numbers.specs.Numbers.{numberAt}
 use Rattle.tree.specs.declared.Status.{Status}
 use Rattle.tree.specs.Tree.{Tree}
 use Rattle.tree.specs.ReadTree.{maxChildren, Node, branch, asks, does, wholeIn, wholeAt, childCount, operandsOf, nodeAt, readEnd}

@@ -12,7 +12,7 @@ use Rattle.refusal.specs.Checked.{Checked, accepted, refused, andThen}
 use Rattle.commands.specs.declared.Found.{Found}
 use Rattle.commands.specs.declared.Found.the-variants.{Missing, Unknown, Cut, Whole}
 use Rattle.commands.specs.Commands.{FALLBACK, SEQUENCE, CONDITION, JOB-LEAF, END-OF-TREE, commandAt}
-use Rattle.commands.specs.Numbers.{numberAt}
+use Rattle.numbers.specs.Numbers.{numberAt}
 use Rattle.tree.specs.declared.Kind.{Kind}
 use Rattle.tree.specs.declared.Kind.the-variants.{Fallback, Sequence}
 use Rattle.tree.specs.Tree.{Tree, Row, condition, action, node, one, more}

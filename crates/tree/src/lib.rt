@@ -105,7 +105,7 @@ fn children(tree: &[u8], at: usize) -> usize
     if is_cut(tree, at, CHILD_COUNT) {
         return 0;
     }
-    let count = commands::read_u16(tree, at + 1) as usize;
+    let count = numbers::read_u16(tree, at + 1) as usize;
     if count > MAX_CHILDREN {
         return 0;
     }
@@ -165,7 +165,7 @@ fn tick_condition(tree: &[u8], at: usize, depth: usize, live: bool, context: Con
     if depth > MAX_DEPTH {
         return refuse(Reason::TreeTooDeep, at);
     }
-    let mask = commands::read_u64(tree, at + 1);
+    let mask = numbers::read_u64(tree, at + 1);
     if !masks::is_within(context.facts, mask) {
         return refuse(Reason::TreeOperandOutOfRange, at);
     }

@@ -6,7 +6,7 @@ use mathlib.Core.Path.{sym, ap, _∙_}
 use Rattle.masks.specs.Sets.{within}
 use Rattle.table.specs.Read.{headed, answerOf}
 use Rattle.table.specs.ReadLaws.{goal-in, goal-out}
-use Rattle.commands.specs.Numbers.{numberAt}
+use Rattle.numbers.specs.Numbers.{numberAt}
 use Rattle.table.proofs.read_goal.Statement.{statement}
 use Rattle.table.proofs.read_goal.Tie as tie
 

@@ -8,7 +8,7 @@ use mathlib.Core.List.{List, [], _∷_, _++_, append-assoc}
 use lib.Arith.{mod-mul}
 use lib.ListN.{length, take, drop, getD, set, length-drop}
 use lib.Seq.{take-add, drop-drop, length-take-le, drop-cons, take-at, drop-at, getD-drop, sets, sets-eq}
-use Rattle.commands.specs.Numbers.{fromBytes, toBytes, numberAt}
+use Rattle.numbers.specs.Numbers.{AreBytes, fromBytes, toBytes, numberAt}
 
 -- ---- one number after another
 
@@ -73,10 +73,6 @@ pub from-to : (n v : ℕ) → v < 256 ^ n → fromBytes (toBytes n v) ≡ v
 unfolding fromBytes toBytes
 from-to zero v h = omega arith
 from-to (suc n) v h = let k : v < 256 ^ n * 256 = rw pow-suc at h in rw (from-to n (v / 256) (omega arith)) (omega arith)
-
--- a list of bytes
-abbrev pub AreBytes : List ℕ → Type 0
-AreBytes s = (i : ℕ) → getD s i 0 < 256
 
 pub bytes-drop : (n : ℕ) (s : List ℕ) → AreBytes s → AreBytes (drop n s)
 bytes-drop n s h i = rw (getD-drop n s i 0) (h (n + i))

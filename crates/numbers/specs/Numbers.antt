@@ -1,9 +1,13 @@
 -- Numbers in bytes, least byte first: document 01, "Masks are unsigned 64-bit, least byte first" and "Two-byte numbers have the least byte first".
 -- One definition for every width.
--- Assumes nothing.
-use Prim.Native.Nat.{ℕ, zero, suc, _+_, _*_, _/_, _%_}
+-- Definitions only.
+use Prim.Native.Nat.{ℕ, zero, suc, _+_, _*_, _/_, _%_, _<_}
 use mathlib.Core.List.{List, [], _∷_}
-use lib.ListN.{take, drop}
+use lib.ListN.{take, drop, getD}
+
+-- a list of bytes
+abbrev pub AreBytes : List ℕ → Type 0
+AreBytes s = (i : ℕ) → getD s i 0 < 256
 
 -- the number that bytes hold
 unfoldable pub fromBytes : List ℕ → ℕ

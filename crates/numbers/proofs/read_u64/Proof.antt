@@ -1,10 +1,10 @@
--- `commands::read_u64` meets its contract: two numbers of half the width, one after the other.
+-- `numbers::read_u64` meets its contract: two numbers of half the width, one after the other.
 -- Assumes nothing.
 use native.Mathlib.Omega.{arith}
 use borrow.Author.Needs.{needs}
-use Rattle.commands.specs.NumberLaws.{read-append}
-use Rattle.commands.proofs.read_u64.Statement.{statement}
-use Rattle.commands.proofs.read_u64.Tie as tie
+use Rattle.numbers.specs.NumberLaws.{read-append}
+use Rattle.numbers.proofs.read_u64.Statement.{statement}
+use Rattle.numbers.proofs.read_u64.Tie as tie
 
 read-u32-requires : tie.Need-read-u32-requires
 read-u32-requires c κs = search needs

@@ -1,4 +1,4 @@
--- `commands::write_u16` meets its contract: two stores, the lower byte first.
+-- `numbers::write_u16` meets its contract: two stores, the lower byte first.
 -- Assumes nothing.
 use native.Mathlib.Omega.{arith}
 use mathlib.Core.Path.{_≡_}
@@ -6,9 +6,9 @@ use Prim.Native.Nat.{_/_, _%_}
 use borrow.Author.Needs.{needs}
 use native.Mathlib.Numerals.{add-one}
 use lib.ListN.{length-set}
-use Rattle.commands.specs.Numbers.{toBytes}
-use Rattle.commands.proofs.write_u16.Statement.{statement}
-use Rattle.commands.proofs.write_u16.Tie as tie
+use Rattle.numbers.specs.Numbers.{toBytes}
+use Rattle.numbers.proofs.write_u16.Statement.{statement}
+use Rattle.numbers.proofs.write_u16.Tie as tie
 
 cast-s : tie.Need-cast-s
 cast-s c = search needs

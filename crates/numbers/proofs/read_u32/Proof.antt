@@ -1,10 +1,10 @@
--- `commands::read_u32` meets its contract: two numbers of half the width, one after the other.
+-- `numbers::read_u32` meets its contract: two numbers of half the width, one after the other.
 -- Assumes nothing.
 use native.Mathlib.Omega.{arith}
 use borrow.Author.Needs.{needs}
-use Rattle.commands.specs.NumberLaws.{read-append}
-use Rattle.commands.proofs.read_u32.Statement.{statement}
-use Rattle.commands.proofs.read_u32.Tie as tie
+use Rattle.numbers.specs.NumberLaws.{read-append}
+use Rattle.numbers.proofs.read_u32.Statement.{statement}
+use Rattle.numbers.proofs.read_u32.Tie as tie
 
 read-u16-requires : tie.Need-read-u16-requires
 read-u16-requires c κs = search needs

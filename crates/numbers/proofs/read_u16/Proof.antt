@@ -1,11 +1,11 @@
--- `commands::read_u16` meets its contract: two bytes, one after the other.
+-- `numbers::read_u16` meets its contract: two bytes, one after the other.
 -- Assumes nothing.
 use native.Mathlib.Omega.{arith}
 use Prim.Native.Nat.{_+_}
 use borrow.Author.Needs.{needs}
-use Rattle.commands.specs.NumberLaws.{read-append, read-byte}
-use Rattle.commands.proofs.read_u16.Statement.{statement}
-use Rattle.commands.proofs.read_u16.Tie as tie
+use Rattle.numbers.specs.NumberLaws.{read-append, read-byte}
+use Rattle.numbers.proofs.read_u16.Statement.{statement}
+use Rattle.numbers.proofs.read_u16.Tie as tie
 
 shared-slice-read-wide : tie.Need-shared-slice-read-wide
 shared-slice-read-wide c = search needs

@@ -1,10 +1,10 @@
--- `commands::write_u32` meets its contract: two numbers of half the width, one after the other.
+-- `numbers::write_u32` meets its contract: two numbers of half the width, one after the other.
 -- Assumes nothing.
 use borrow.Author.Needs.{needs}
 use mathlib.Core.Path.{_∙_}
-use Rattle.commands.specs.NumberLaws.{write-append}
-use Rattle.commands.proofs.write_u32.Statement.{statement}
-use Rattle.commands.proofs.write_u32.Tie as tie
+use Rattle.numbers.specs.NumberLaws.{write-append}
+use Rattle.numbers.proofs.write_u32.Statement.{statement}
+use Rattle.numbers.proofs.write_u32.Tie as tie
 
 cast-write-u16 : tie.Need-cast-write-u16
 cast-write-u16 c = search needs
