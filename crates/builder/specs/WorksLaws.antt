@@ -19,7 +19,7 @@ use Rattle.reading.specs.ReadingLaws.{sound-apart, completes-within, state-soun
 use Rattle.conditions.specs.Condition.{Condition, needed, conditionWithin}
 use Rattle.conditions.specs.OnReading.{Confirmed}
 use Rattle.conditions.specs.OnReadingLaws.{regressed-confirmed}
-use Rattle.numbers.specs.NumberLaws.{AreBytes}
+use Rattle.numbers.specs.Numbers.{AreBytes}
 use Rattle.table.specs.Table.{Table, actionOf}
 use Rattle.table.specs.Read.{readTable}
 use Rattle.table.specs.RoundTripLaws.{read-sound}

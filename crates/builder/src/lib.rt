@@ -76,7 +76,7 @@ fn refuse(reason: Reason, place: usize) -> Listed
 }
 
 // Without a start there is no way to miss: every entry expanded is what was asked for.
-fn listed(until: Until, expanded: Expanded) -> Listed
+fn as_listed(until: Until, expanded: Expanded) -> Listed
     ensures { λ r. ⌜ listedOf r ≡ expandedOf until expanded ⌝ }
 {
     match expanded {
@@ -126,7 +126,7 @@ pub fn build(
         (now (tree .entry)) (now (tree .exit)) (builtOf r)) ⌝ }
 {
     let expanded = expand_goal(table, header, until, conditions, actions, parents, depths);
-    match listed(until, expanded) {
+    match as_listed(until, expanded) {
         Listed::Refused(x) => Built::Refused(x),
         Listed::Entries(n) => fit_tree(n, conditions, actions, tree),
     }

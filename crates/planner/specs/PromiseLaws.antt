@@ -16,7 +16,7 @@ use Rattle.refusal.specs.CheckedLaws.{not-both, accepted-same}
 use Rattle.reading.specs.declared.Reading.{Reading}
 use Rattle.reading.specs.Reading.{sound}
 use Rattle.conditions.specs.Condition.{Condition}
-use Rattle.numbers.specs.NumberLaws.{AreBytes}
+use Rattle.numbers.specs.Numbers.{AreBytes}
 use Rattle.table.specs.Table.{Table}
 use Rattle.table.specs.Read.{readTable}
 use Rattle.planning.specs.Sequence.{Reaches}

@@ -10,7 +10,7 @@ use lib.ListN.{length}
 use Rattle.refusal.specs.Checked.{accepted, refused}
 use Rattle.refusal.specs.CheckedLaws.{not-both, accepted-same}
 use Rattle.conditions.specs.Condition.{Condition}
-use Rattle.numbers.specs.NumberLaws.{AreBytes}
+use Rattle.numbers.specs.Numbers.{AreBytes}
 use Rattle.table.specs.Table.{Table}
 use Rattle.table.specs.Read.{readTable}
 use Rattle.planning.specs.Sequence.{Reaches}
