@@ -6,7 +6,7 @@ use native.Mathlib.Omega.{arith}
 use mathlib.Core.Path.{_≡_, refl, sym, ap, _∙_}
 use mathlib.Core.List.{List, [], _∷_, _++_, append-assoc}
 use lib.Arith.{mod-mul}
-use lib.ListN.{length, take, drop, getD, set, length-drop}
+use lib.ListN.{length, take, drop, getD, set, length-drop, take-append-drop}
 use lib.Seq.{take-add, drop-drop, length-take-le, drop-cons, take-at, drop-at, getD-drop, sets, sets-eq}
 use Rattle.numbers.specs.Numbers.{AreBytes, fromBytes, toBytes, numberAt}
 
@@ -103,6 +103,14 @@ unfolding numberAt
 written-there n s at h l =
     let size : length (take n (drop at s)) ≡ n = length-take-le n (drop at s) (simp length-drop (omega arith)) in
     ap (λ (k : ℕ). toBytes k (fromBytes (take n (drop at s)))) (sym size) ∙ to-from (take n (drop at s)) (bytes-take n (drop at s) (bytes-drop at s h))
+
+-- ---- what stands from an offset on
+
+pub byte-there : (s : List ℕ) (at next : ℕ) → at + 1 ≡ next → next ≤ length s → getD s at 0 ∷ drop next s ≡ drop at s
+byte-there s at next e l = let k : next ≡ suc at = omega arith in rw k (sym (drop-cons s at 0 (omega arith)))
+
+pub number-there : (s : List ℕ) → AreBytes s → (n at next : ℕ) → at + n ≡ next → next ≤ length s → toBytes n (numberAt n s at) ++ drop next s ≡ drop at s
+number-there s b n at next e l = rw (written-there n s at b (omega arith), ← e, ← drop-drop n at s) (take-append-drop n (drop at s))
 
 -- a number counted from an offset
 pub read-drop : (n : ℕ) (s : List ℕ) (at k : ℕ) → numberAt n s (at + k) ≡ numberAt n (drop at s) k

@@ -1,5 +1,6 @@
 pub mod Table
 pub mod Read
-pub mod ReadLaws
 pub mod Sound
-pub mod RoundTrip
+pub mod ReadLaws
+pub mod RoundTripLaws
+pub mod OffsetLaws

@@ -5,7 +5,7 @@ use native.Mathlib.Omega.{arith}
 use mathlib.Core.Path.{_≡_, refl, sym, _∙_}
 use mathlib.Core.Bool.{Bool, true, false, _||_}
 use mathlib.Core.List.{List, [], _∷_, _++_}
-use borrow.Author.Tests.{eq-eqb, ne-eqb, eqb-true, lt-ltb, le-ltb, lt-leb, le-leb}
+use borrow.Author.Tests.{eq-eqb, ne-eqb, eqb-true, lt-ltb, le-ltb}
 use lib.Dec.{eqb}
 use lib.ListN.{length, getD}
 use Rattle.base.specs.Bools.{if_then_else_}
@@ -15,20 +15,23 @@ use Rattle.refusal.specs.CheckedLaws.{not-both, accepted-same}
 use Rattle.commands.specs.declared.Found.{Found}
 use Rattle.commands.specs.declared.Found.the-variants.{Missing, Unknown, Cut, Whole}
 use Rattle.commands.specs.declared.Width.the-variants.{Bytes}
-use Rattle.commands.specs.Commands.{FACTS, JOB, GOAL, END-OF-TABLE, widthOf, commandAt}
+use Rattle.commands.specs.Commands.{FACTS, JOB, GOAL, END-OF-TABLE, FACTS-SIZE, JOB-SIZE, GOAL-SIZE, END-OF-TABLE-SIZE, OPERANDS-AT, Past, widthOf, commandAt}
 use Rattle.commands.specs.CommandLaws.{WholeAt, whole-told}
 use Rattle.numbers.specs.Numbers.{numberAt}
-use Rattle.table.specs.declared.Job.{Job}
+use Rattle.job.specs.declared.Job.{Job}
+use Rattle.job.specs.Job.{noJob, jobAt, jobFrom}
+use Rattle.job.specs.JobLaws.{job-size}
+use Rattle.job.specs.Validation.{validatedJob}
 use Rattle.table.specs.declared.Header.{Header}
 use Rattle.table.specs.declared.Stage.{Stage}
 use Rattle.table.specs.declared.Stage.the-variants.{First, Middle, Last}
-use Rattle.table.specs.Table.{Table, maxJobs, maxSeconds, noJob}
-use Rattle.table.specs.Read.{allowed, Step, dueIn, due, jobAt, factsInRange, inRange, overlaps, judged, readEnd, readGoal, readJobs, readTable, jobsOf, namedJob, headerOf, headed}
+use Rattle.table.specs.Table.{Table, maxJobs}
+use Rattle.table.specs.Read.{allowed, dueIn, due, factsInRange, readEnd, readGoal, readJobs, readTable, jobsOf, namedJob, headerOf, headed}
 
 -- ---- the command that is due
 
 module _ (stage : Stage) (s : List ℕ) (at : ℕ) where
-  found : (f : Found) (r : Checked Step) → commandAt s at ≡ f → dueIn stage s at f ≡ r → r ≡ due stage s at
+  found : (f : Found) (r : Checked (Past ℕ)) → commandAt s at ≡ f → dueIn stage s at f ≡ r → r ≡ due stage s at
   unfolding due
   found f r e d = rw e (sym d)
 
@@ -45,26 +48,26 @@ module _ (stage : Stage) (s : List ℕ) (at : ℕ) where
     pub due-cut-other : commandAt s at ≡ Cut byte → allowed stage byte ≡ false → refused 2 at ≡ due stage s at
     due-cut-other e a = found (Cut byte) _ e (rw a)
 
-    pub due-whole : (next : ℕ) → commandAt s at ≡ Whole byte next → allowed stage byte ≡ true → accepted (record { byte = byte; next = next }) ≡ due stage s at
+    pub due-whole : (next : ℕ) → commandAt s at ≡ Whole byte next → allowed stage byte ≡ true → accepted (record { value = byte; next = next }) ≡ due stage s at
     due-whole next e a = found (Whole byte next) _ e (rw a)
 
     pub due-other : (next : ℕ) → commandAt s at ≡ Whole byte next → allowed stage byte ≡ false → refused 2 at ≡ due stage s at
     due-other next e a = found (Whole byte next) _ e (rw a)
 
 -- what a command that was due tells
-pub record DueAt (stage : Stage) (s : List ℕ) (at : ℕ) (c : Step) : Type 0 where
-  pub whole : WholeAt s at (c .byte) (c .next)
-  pub fits : allowed stage (c .byte) ≡ true
+pub record DueAt (stage : Stage) (s : List ℕ) (at : ℕ) (c : Past ℕ) : Type 0 where
+  pub whole : WholeAt s at (c .value) (c .next)
+  pub fits : allowed stage (c .value) ≡ true
 
-module _ (stage : Stage) (s : List ℕ) (at : ℕ) (c : Step) where
+module _ (stage : Stage) (s : List ℕ) (at : ℕ) (c : Past ℕ) where
   pub due-told : accepted c ≡ due stage s at → DueAt stage s at c
   unfolding due
   due-told = by-found (commandAt s at) refl
     where
       by-allowed : (byte next : ℕ) (t : Bool) → allowed stage byte ≡ t → commandAt s at ≡ Whole byte next
-          → accepted c ≡ (if t then accepted (record { byte = byte; next = next }) else refused 2 at) → DueAt stage s at c
+          → accepted c ≡ (if t then accepted (record { value = byte; next = next }) else refused 2 at) → DueAt stage s at c
       by-allowed byte next true l e q =
-          let k : c ≡ record { byte = byte; next = next } = cc in
+          let k : c ≡ record { value = byte; next = next } = cc in
           rw k (record { whole = whole-told s at byte next e; fits = l })
       by-allowed byte next false l e q = absurd (clash q)
         where
@@ -83,57 +86,40 @@ module _ (stage : Stage) (s : List ℕ) (at : ℕ) (c : Step) where
 
 -- where a command's operands end
 
-sized : (s : List ℕ) (at : ℕ) (c : Step) (byte w : ℕ) → WholeAt s at (c .byte) (c .next) → c .byte ≡ byte → widthOf byte ≡ Bytes w
+sized : (s : List ℕ) (at : ℕ) (c : Past ℕ) (byte w : ℕ) → WholeAt s at (c .value) (c .next) → c .value ≡ byte → widthOf byte ≡ Bytes w
     → (c .next ≡ at + 1 + w) × (at + 1 + w ≤ length s)
 sized s at c byte w h b e =
     let k : h .width ≡ w = cc (h .is-width, b, e) in
     (omega (arith, h .is-next), omega (arith, h .is-next, h .inside))
 
-module _ (s : List ℕ) (at : ℕ) (c : Step) where
-  pub facts-inside : accepted c ≡ due First s at → (c .next ≡ at + 1 + 1) × (at + 1 + 1 ≤ length s)
+module _ (s : List ℕ) (at : ℕ) (c : Past ℕ) where
+  pub facts-inside : accepted c ≡ due First s at → (c .next ≡ at + FACTS-SIZE) × (at + FACTS-SIZE ≤ length s)
   unfolding widthOf
-  facts-inside e = let d = due-told First s at c e in sized s at c FACTS 1 (d .whole) (eqb-true _ _ (d .fits)) refl
+  facts-inside e = let d = due-told First s at c e in omega (arith, sized s at c FACTS _ (d .whole) (eqb-true _ _ (d .fits)) refl)
 
-  pub end-inside : accepted c ≡ due Last s at → (c .next ≡ at + 1 + 0) × (at + 1 + 0 ≤ length s)
+  pub end-inside : accepted c ≡ due Last s at → (c .next ≡ at + END-OF-TABLE-SIZE) × (at + END-OF-TABLE-SIZE ≤ length s)
   unfolding widthOf
-  end-inside e = let d = due-told Last s at c e in sized s at c END-OF-TABLE 0 (d .whole) (eqb-true _ _ (d .fits)) refl
+  end-inside e = let d = due-told Last s at c e in omega (arith, sized s at c END-OF-TABLE _ (d .whole) (eqb-true _ _ (d .fits)) refl)
 
   module _ (e : accepted c ≡ due Middle s at) where
-    pub goal-inside : c .byte ≡ GOAL → (c .next ≡ at + 1 + 8) × (at + 1 + 8 ≤ length s)
+    pub goal-inside : c .value ≡ GOAL → (c .next ≡ at + GOAL-SIZE) × (at + GOAL-SIZE ≤ length s)
     unfolding widthOf
-    goal-inside b = sized s at c GOAL 8 (due-told Middle s at c e .whole) b refl
+    goal-inside b = omega (arith, sized s at c GOAL _ (due-told Middle s at c e .whole) b refl)
 
-    pub job-byte : (c .byte ≡ GOAL → ⊥) → c .byte ≡ JOB
-    job-byte b = eqb-true _ _ (left (eqb (c .byte) JOB) (eqb (c .byte) GOAL) (due-told Middle s at c e .fits) (ne-eqb _ _ b))
+    pub job-byte : (c .value ≡ GOAL → ⊥) → c .value ≡ JOB
+    job-byte b = eqb-true _ _ (left (eqb (c .value) JOB) (eqb (c .value) GOAL) (due-told Middle s at c e .fits) (ne-eqb _ _ b))
       where
         left : (x y : Bool) → (x || y) ≡ true → y ≡ false → x ≡ true
         left true y p q = refl
         left false y p q = sym q ∙ p
 
-    pub job-inside : (c .byte ≡ GOAL → ⊥) → (c .next ≡ at + 1 + 26) × (at + 1 + 26 ≤ length s)
+    pub job-inside : (c .value ≡ GOAL → ⊥) → (c .next ≡ at + JOB-SIZE) × (at + JOB-SIZE ≤ length s)
     unfolding widthOf
-    job-inside b = sized s at c JOB 26 (due-told Middle s at c e .whole) (job-byte b) refl
+    job-inside b = omega (arith, sized s at c JOB _ (due-told Middle s at c e .whole) (job-byte b) refl)
 
--- ---- a job's masks and its seconds
-
-module _ (facts at : ℕ) (j : Job) where
-  pub judged-out : inRange facts j ≡ false → refused 5 at ≡ judged facts at j
-  unfolding judged
-  judged-out e = rw e
-
-  module _ (e : inRange facts j ≡ true) where
-    pub judged-overlap : overlaps j ≡ true → refused 6 at ≡ judged facts at j
-    unfolding judged
-    judged-overlap o = rw (e, o)
-
-    module _ (o : overlaps j ≡ false) where
-      pub judged-long : maxSeconds < j .seconds → refused 19 at ≡ judged facts at j
-      unfolding judged
-      judged-long l = rw (e, o, lt-leb (j .seconds) maxSeconds l)
-
-      pub judged-sound : j .seconds ≤ maxSeconds → accepted j ≡ judged facts at j
-      unfolding judged
-      judged-sound l = rw (e, o, le-leb (j .seconds) maxSeconds l)
+    -- so the job that is read there ends where its command does
+    pub job-whole : (c .value ≡ GOAL → ⊥) → (c .next ≡ jobFrom s at .next) × (jobFrom s at .next ≤ length s)
+    job-whole b = omega (arith, job-inside b, job-size (jobAt s at))
 
 -- ---- END
 
@@ -142,7 +128,7 @@ module _ (s : List ℕ) (t : Table) (at : ℕ) where
   unfolding readEnd
   end-refused n p e = rw (← e)
 
-  module _ (c : Step) (e : accepted c ≡ due Last s at) where
+  module _ (c : Past ℕ) (e : accepted c ≡ due Last s at) where
     pub end-whole : c .next ≡ length s → accepted t ≡ readEnd s t at
     unfolding readEnd
     end-whole l = rw (← e, eq-eqb _ _ l)
@@ -154,12 +140,12 @@ module _ (s : List ℕ) (t : Table) (at : ℕ) where
 -- ---- GOAL
 
 module _ (s : List ℕ) (facts : ℕ) (js : List Job) (at next : ℕ) where
-  pub goal-out : within facts (numberAt 8 s (at + 1)) ≡ false → refused 5 at ≡ readGoal s facts js at next
+  pub goal-out : within facts (numberAt 8 s (at + OPERANDS-AT)) ≡ false → refused 5 at ≡ readGoal s facts js at next
   unfolding readGoal
   goal-out e = rw e
 
-  pub goal-in : within facts (numberAt 8 s (at + 1)) ≡ true
-      → readEnd s (record { facts = facts; jobs = js; goal = numberAt 8 s (at + 1) }) next ≡ readGoal s facts js at next
+  pub goal-in : within facts (numberAt 8 s (at + OPERANDS-AT)) ≡ true
+      → readEnd s (record { facts = facts; jobs = js; goal = numberAt 8 s (at + OPERANDS-AT) }) next ≡ readGoal s facts js at next
   unfolding readGoal
   goal-in e = rw e
 
@@ -171,22 +157,22 @@ module _ (s : List ℕ) (facts : ℕ) (js : List Job) (at : ℕ) where
   jobs-refused zero n p e = rw (← e)
   jobs-refused (suc left) n p e = rw (← e)
 
-  module _ (c : Step) (e : accepted c ≡ due Middle s at) where
-    pub jobs-goal : (left : ℕ) → c .byte ≡ GOAL → readGoal s facts js at (c .next) ≡ readJobs s facts left js at
+  module _ (c : Past ℕ) (e : accepted c ≡ due Middle s at) where
+    pub jobs-goal : (left : ℕ) → c .value ≡ GOAL → readGoal s facts js at (c .next) ≡ readJobs s facts left js at
     unfolding readJobs
     jobs-goal zero b = rw (← e, eq-eqb _ _ b)
     jobs-goal (suc left) b = rw (← e, eq-eqb _ _ b)
 
-    module _ (b : c .byte ≡ GOAL → ⊥) where
+    module _ (b : c .value ≡ GOAL → ⊥) where
       pub jobs-full : refused 4 at ≡ readJobs s facts 0 js at
       unfolding readJobs
       jobs-full = rw (← e, ne-eqb _ _ b)
 
-      pub jobs-bad : (left n p : ℕ) → refused n p ≡ judged facts at (jobAt s at) → refused n p ≡ readJobs s facts (suc left) js at
+      pub jobs-bad : (left n p : ℕ) → refused n p ≡ validatedJob facts at (jobAt s at) → refused n p ≡ readJobs s facts (suc left) js at
       unfolding readJobs
       jobs-bad left n p r = rw (← e, ne-eqb _ _ b, ← r)
 
-      pub jobs-more : (left : ℕ) (j : Job) → accepted j ≡ judged facts at (jobAt s at) → readJobs s facts left (js ++ (j ∷ [])) (c .next) ≡ readJobs s facts (suc left) js at
+      pub jobs-more : (left : ℕ) (j : Job) → accepted j ≡ validatedJob facts at (jobAt s at) → readJobs s facts left (js ++ (j ∷ [])) (c .next) ≡ readJobs s facts (suc left) js at
       unfolding readJobs
       jobs-more left j r = rw (← e, ne-eqb _ _ b, ← r)
 
@@ -197,12 +183,12 @@ module _ (s : List ℕ) where
   unfolding readTable
   table-refused n p e = rw (← e)
 
-  module _ (c : Step) (e : accepted c ≡ due First s 0) where
-    pub table-facts : factsInRange (getD s 1 0) ≡ true → readJobs s (getD s 1 0) maxJobs [] (c .next) ≡ readTable s
+  module _ (c : Past ℕ) (e : accepted c ≡ due First s 0) where
+    pub table-facts : factsInRange (getD s OPERANDS-AT 0) ≡ true → readJobs s (getD s OPERANDS-AT 0) maxJobs [] (c .next) ≡ readTable s
     unfolding readTable
     table-facts f = rw (← e, f)
 
-    pub table-no-facts : factsInRange (getD s 1 0) ≡ false → refused 3 0 ≡ readTable s
+    pub table-no-facts : factsInRange (getD s OPERANDS-AT 0) ≡ false → refused 3 0 ≡ readTable s
     unfolding readTable
     table-no-facts f = rw (← e, f)
 
@@ -218,15 +204,11 @@ headed-sound (refused n p) e = absurd (not-both (sym e))
 
 -- ---- a job by its number
 
-module _ (r : Checked Table) (i : ℕ) where
-  pub named-refused : {n p : ℕ} → refused n p ≡ r → refused n p ≡ andThen r (λ t. namedJob t i)
-  named-refused e = rw (← e)
+module _ (t : Table) (i place : ℕ) where
+  pub named-job : i < length (t .jobs) → accepted (getD (t .jobs) i noJob) ≡ namedJob t i place
+  unfolding namedJob
+  named-job h = rw (lt-ltb i (length (t .jobs)) h)
 
-  module _ (t : Table) (e : accepted t ≡ r) where
-    pub named-job : i < length (t .jobs) → accepted (getD (jobsOf r) i noJob) ≡ andThen r (λ t. namedJob t i)
-    unfolding namedJob
-    named-job h = rw (← e, lt-ltb i (length (t .jobs)) h)
-
-    pub named-none : length (t .jobs) ≤ i → refused 16 0 ≡ andThen r (λ t. namedJob t i)
-    unfolding namedJob
-    named-none h = rw (← e, le-ltb i (length (t .jobs)) h)
+  pub named-none : length (t .jobs) ≤ i → refused 16 place ≡ namedJob t i place
+  unfolding namedJob
+  named-none h = rw (le-ltb i (length (t .jobs)) h)

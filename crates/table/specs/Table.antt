@@ -1,38 +1,23 @@
 -- The job table: document 01, "Commands". Its bytes: "A table is FACTS, then 0 to 128 JOBs numbered from 0, then GOAL, then END."
--- Assumes nothing.
-use Prim.Native.Nat.{ℕ}
+-- Definitions only.
+use Prim.Native.Nat.{ℕ, _+_}
 use mathlib.Core.List.{List, [], _∷_, _++_}
-use Rattle.commands.specs.Commands.{FACTS, JOB, GOAL, END-OF-TABLE}
+use lib.ListN.{length, take}
+use Rattle.commands.specs.Commands.{FACTS, GOAL, END-OF-TABLE, FACTS-SIZE}
 use Rattle.numbers.specs.Numbers.{toBytes}
-use Rattle.conditions.specs.declared.Action.{Action}
-use Rattle.table.specs.declared.Job.{Job}
+use Rattle.job.specs.declared.Job.{Job}
+use Rattle.job.specs.Job.{jobBytes}
 
 pub record Table : Type 0 where
   pub facts : ℕ
   pub jobs : List Job
   pub goal : ℕ
 
--- what `getD` gives past the last job
-abbrev pub noJob : Job
-noJob = record { needs = 0; adds = 0; deletes = 0; seconds = 0 }
-
--- what the job needs and does, without its seconds
-abbrev pub actionOf : Job → Action
-actionOf j = record { needs = j .needs; adds = j .adds; deletes = j .deletes }
-
 abbrev pub maxFacts : ℕ
 maxFacts = 64
 
 abbrev pub maxJobs : ℕ
 maxJobs = 128
-
--- document 02, W3: "the longest listed job is 5,400 seconds. That becomes the limit of the seconds field"
-abbrev pub maxSeconds : ℕ
-maxSeconds = 5400
-
--- JOB: "needs, adds, deletes (8 bytes each), seconds (2 bytes)"
-unfoldable pub jobBytes : Job → List ℕ
-jobBytes j = JOB ∷ toBytes 8 (j .needs) ++ (toBytes 8 (j .adds) ++ (toBytes 8 (j .deletes) ++ toBytes 2 (j .seconds)))
 
 unfoldable pub jobsBytes : List Job → List ℕ
 jobsBytes [] = []
@@ -43,3 +28,7 @@ goalBytes goal = GOAL ∷ toBytes 8 goal ++ (END-OF-TABLE ∷ [])
 
 unfoldable pub tableBytes : Table → List ℕ
 tableBytes t = FACTS ∷ t .facts ∷ jobsBytes (t .jobs) ++ goalBytes (t .goal)
+
+-- where job i stands: after FACTS and the jobs before it
+unfoldable pub offsetOf : List Job → ℕ → ℕ
+offsetOf js i = FACTS-SIZE + length (jobsBytes (take i js))

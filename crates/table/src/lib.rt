@@ -1,38 +1,24 @@
 // The job table, read from bytes, with every check that the papers make of a table (document 01, "Commands" and "Stops, in
 // checking order", 1 to 7; document 02, W3, 19).
 use commands::Found;
-use conditions::Action;
+use job::Job;
+use job::Validated;
 use refusal::Reason;
 use refusal::Refusal;
 ghost use mathlib.Core.Path.{_≡_};
 ghost use Prim.Native.Nat.{_+_, _≤_, _<_};
 ghost use lib.ListN.{length, getD};
 ghost use mathlib.Core.List.{List, []};
-ghost use Rattle.table.specs.Table.{Table, maxJobs, noJob, actionOf};
-ghost use Rattle.table.specs.Read.{allowed, due, stepOf, jobAt, factsInRange, inRange, overlaps, judged, judgedOf, readEnd, readGoal, readJobs, readTable, jobsOf, namedJob, headerOf, headed, answerOf, jobReadOf};
-ghost use Rattle.refusal.specs.Checked.{andThen};
+ghost use Rattle.refusal.specs.Checked.{accepted, andThen};
+ghost use Rattle.commands.specs.Commands.{GOAL-SIZE};
+ghost use Rattle.job.specs.Job.{noJob};
+ghost use Rattle.table.specs.Table.{Table, maxJobs};
+ghost use Rattle.table.specs.Read.{allowed, due, dueOf, factsInRange, readEnd, readGoal, readJobs, readTable, jobsOf, namedJob, headerOf, headed, tableReadOf, jobReadOf};
 
-// Document 01's JOB: the facts that it needs, adds and deletes, and the seconds that it is listed with.
-pub struct Job {
-    pub needs: u64,
-    pub adds: u64,
-    pub deletes: u64,
-    pub seconds: u16,
-}
+// The most facts and jobs that a table may have.
+pub const MAX_FACTS: u8 = 64;
 
-// What the job needs and does, without its seconds.
-pub fn action_of(job: Job) -> Action
-    ensures { λ r. ⌜ r ≡ actionOf job ⌝ }
-{
-    Action {
-        needs: job.needs,
-        adds: job.adds,
-        deletes: job.deletes,
-    }
-}
-
-// The most seconds that a job may be listed with.
-pub const MAX_SECONDS: u16 = 5_400;
+pub const MAX_JOBS: usize = 128;
 
 // What a sound table says besides its jobs.
 pub struct Header {
@@ -80,7 +66,7 @@ fn refuse(reason: Reason, place: usize) -> Due
 
 // The command at an offset, checked as far as its operands' presence.
 fn command_due(s: &[u8], at: usize, stage: Stage) -> Due
-    ensures { λ r. ⌜ stepOf r ≡ due stage (now (s .entry)) at ⌝ }
+    ensures { λ r. ⌜ dueOf r ≡ due stage (now (s .entry)) at ⌝ }
 {
     match commands::command_at(s, at) {
         Found::Missing => refuse(Reason::TableCut, s.len()),
@@ -102,71 +88,6 @@ fn command_due(s: &[u8], at: usize, stage: Stage) -> Due
     }
 }
 
-// The operands of the JOB at an offset.
-fn operands_at(s: &[u8], at: usize) -> Job
-    requires { ⌜ at + 27 ≤ length (now s) ⌝ }
-    ensures { λ r. ⌜ r ≡ jobAt (now (s .entry)) at ⌝ }
-{
-    let needs = numbers::read_u64(s, at + 1);
-    let adds = numbers::read_u64(s, at + 9);
-    let deletes = numbers::read_u64(s, at + 17);
-    let seconds = numbers::read_u16(s, at + 25);
-    Job {
-        needs,
-        adds,
-        deletes,
-        seconds,
-    }
-}
-
-pub enum Judged {
-    Sound,
-    Refused(Refusal),
-}
-
-fn masks_in_range(facts: u8, job: Job) -> bool
-    ensures { λ r. ⌜ r ≡ inRange facts job ⌝ }
-{
-    if !masks::is_within(facts, job.needs) {
-        return false;
-    }
-    if !masks::is_within(facts, job.adds) {
-        return false;
-    }
-    masks::is_within(facts, job.deletes)
-}
-
-fn effects_overlap(job: Job) -> bool
-    ensures { λ r. ⌜ r ≡ overlaps job ⌝ }
-{
-    masks::share_fact(job.adds, job.deletes) || masks::share_fact(job.adds, job.needs)
-}
-
-// A job's masks against the number of facts and against each other, then its seconds; `at` is where its command stands.
-pub fn judge(facts: u8, at: usize, job: Job) -> Judged
-    ensures { λ r. ⌜ judgedOf job r ≡ judged facts at job ⌝ }
-{
-    if !masks_in_range(facts, job) {
-        return Judged::Refused(Refusal {
-            reason: Reason::TableMaskOutOfRange,
-            place: at,
-        });
-    }
-    if effects_overlap(job) {
-        return Judged::Refused(Refusal {
-            reason: Reason::EffectsOverlap,
-            place: at,
-        });
-    }
-    if job.seconds > MAX_SECONDS {
-        return Judged::Refused(Refusal {
-            reason: Reason::JobTooLong,
-            place: at,
-        });
-    }
-    Judged::Sound
-}
-
 fn refused(reason: Reason, place: usize) -> TableRead
     ensures { λ r. ⌜ r ≡ TableRead.Refused (record { reason = reason; place = place }) ⌝ }
 {
@@ -175,7 +96,7 @@ fn refused(reason: Reason, place: usize) -> TableRead
 
 // END at an offset, and nothing after it.
 fn read_end(s: &[u8], header: Header, at: usize) -> TableRead
-    ensures { λ r. ⌜ ((t : Table) → headerOf t ≡ header → answerOf r ≡ headed (readEnd (now (s .entry)) t at)) ⌝ }
+    ensures { λ r. ⌜ ((t : Table) → headerOf t ≡ header → tableReadOf r ≡ headed (readEnd (now (s .entry)) t at)) ⌝ }
 {
     match command_due(s, at, Stage::Last) {
         Due::Refused(x) => TableRead::Refused(x),
@@ -191,10 +112,10 @@ fn read_end(s: &[u8], header: Header, at: usize) -> TableRead
 
 // GOAL at an offset, whose operand ends before `next`, after as many jobs.
 fn read_goal(s: &[u8], facts: u8, jobs: usize, at: usize, next: usize) -> TableRead
-    requires { ⌜ at + 9 ≤ length (now s) ⌝ }
-    ensures { λ r. ⌜ ((js : List Job) → length js ≡ jobs → answerOf r ≡ headed (readGoal (now (s .entry)) facts js at next)) ⌝ }
+    requires { ⌜ at + GOAL-SIZE ≤ length (now s) ⌝ }
+    ensures { λ r. ⌜ ((js : List Job) → length js ≡ jobs → tableReadOf r ≡ headed (readGoal (now (s .entry)) facts js at next)) ⌝ }
 {
-    let goal = numbers::read_u64(s, at + 1);
+    let goal = numbers::read_u64(s, at + commands::OPERANDS_AT);
     if masks::is_within(facts, goal) {
         read_end(s, Header { facts, jobs, goal }, next)
     } else {
@@ -204,7 +125,7 @@ fn read_goal(s: &[u8], facts: u8, jobs: usize, at: usize, next: usize) -> TableR
 
 // The JOBs from an offset on, then GOAL and END.
 fn read_jobs(s: &[u8], facts: u8, first: usize) -> TableRead
-    ensures { λ r. ⌜ answerOf r ≡ headed (readJobs (now (s .entry)) facts maxJobs [] first) ⌝ }
+    ensures { λ r. ⌜ tableReadOf r ≡ headed (readJobs (now (s .entry)) facts maxJobs [] first) ⌝ }
 {
     let mut at = first;
     let mut jobs: usize = 0;
@@ -217,14 +138,15 @@ fn read_jobs(s: &[u8], facts: u8, first: usize) -> TableRead
                 if byte == commands::GOAL {
                     return read_goal(s, facts, jobs, at, next);
                 }
-                if jobs == 128 {
+                if jobs == MAX_JOBS {
                     return refused(Reason::TooManyJobs, at);
                 }
-                match judge(facts, at, operands_at(s, at)) {
-                    Judged::Refused(x) => {
+                let past = job::job_from(s, at);
+                match job::validate_job(facts, at, past.job) {
+                    Validated::Refused(x) => {
                         return TableRead::Refused(x);
                     }
-                    Judged::Sound => {
+                    Validated::Sound => {
                         at = next;
                         jobs += 1;
                     }
@@ -240,17 +162,17 @@ pub fn facts_in_range(facts: u8) -> bool
     if facts < 1 {
         return false;
     }
-    facts <= 64
+    facts <= MAX_FACTS
 }
 
 // Reads a table: any bytes.
 pub fn read_table(s: &[u8]) -> TableRead
-    ensures { λ r. ⌜ answerOf r ≡ headed (readTable (now (s .entry))) ⌝ }
+    ensures { λ r. ⌜ tableReadOf r ≡ headed (readTable (now (s .entry))) ⌝ }
 {
     match command_due(s, 0, Stage::First) {
         Due::Refused(x) => TableRead::Refused(x),
         Due::Command(_, next) => {
-            let facts = s[1];
+            let facts = s[commands::OPERANDS_AT];
             if facts_in_range(facts) {
                 read_jobs(s, facts, next)
             } else {
@@ -260,12 +182,20 @@ pub fn read_table(s: &[u8]) -> TableRead
     }
 }
 
-// The operands of a job of a sound table. The first JOB stands after FACTS and its operand, each later one after the one before.
+// A job of a sound table: jobs are walked from the first on, since each stands past the one before.
 pub fn job_at(table: &[u8], index: usize) -> Job
     requires { ⌜ index < length (jobsOf (readTable (now table))) ⌝ }
     ensures { λ r. ⌜ r ≡ getD (jobsOf (readTable (now (table .entry)))) index noJob ⌝ }
 {
-    operands_at(table, commands::FACTS_SIZE + commands::JOB_SIZE * index)
+    let mut at: usize = commands::FACTS_SIZE;
+    let mut i: usize = 0;
+    while i < index {
+        let past = job::job_from(table, at);
+        at = past.next;
+        i += 1;
+    }
+    let past = job::job_from(table, at);
+    past.job
 }
 
 pub enum JobRead {
@@ -273,22 +203,28 @@ pub enum JobRead {
     Refused(Refusal),
 }
 
+// A job by its number, of a table that was read already; `place` is told where no job has the number.
+pub fn named_job(table: &[u8], header: Header, index: usize, place: usize) -> JobRead
+    requires { ⌜ accepted header ≡ headed (readTable (now table)) ⌝ }
+    ensures { λ r. ⌜ ((t : Table) → accepted t ≡ readTable (now (table .entry)) → jobReadOf r ≡ namedJob t index place) ⌝ }
+{
+    let jobs = header.jobs;
+    if index < jobs {
+        JobRead::Named(job_at(table, index))
+    } else {
+        JobRead::Refused(Refusal {
+            reason: Reason::NoSuchJob,
+            place,
+        })
+    }
+}
+
 // A job by its number: any bytes, any number.
 pub fn read_job(table: &[u8], index: usize) -> JobRead
-    ensures { λ r. ⌜ jobReadOf r ≡ andThen (readTable (now (table .entry))) (λ t. namedJob t index) ⌝ }
+    ensures { λ r. ⌜ jobReadOf r ≡ andThen (readTable (now (table .entry))) (λ t. namedJob t index 0) ⌝ }
 {
     match read_table(table) {
         TableRead::Refused(x) => JobRead::Refused(x),
-        TableRead::Sound(header) => {
-            let jobs = header.jobs;
-            if index < jobs {
-                JobRead::Named(job_at(table, index))
-            } else {
-                JobRead::Refused(Refusal {
-                    reason: Reason::NoSuchJob,
-                    place: 0,
-                })
-            }
-        }
+        TableRead::Sound(header) => named_job(table, header, index, 0),
     }
 }

@@ -2,7 +2,7 @@
 -- Assumes nothing.
 use borrow.Author.Needs.{needs}
 use mathlib.Core.Path.{sym, ap, _∙_}
-use Rattle.table.specs.Read.{stepOf}
+use Rattle.table.specs.Read.{dueOf}
 use Rattle.table.specs.ReadLaws.{due-missing, due-unknown, due-cut, due-cut-other, due-whole, due-other}
 use Rattle.table.proofs.command_due.Statement.{statement}
 use Rattle.table.proofs.command_due.Tie as tie
@@ -44,20 +44,20 @@ refuse-requires-5 : tie.Need-refuse-requires-5
 refuse-requires-5 c κs = search needs
 
 returns : tie.Need-returns
-returns c = ap stepOf (c .refuse .ensures) ∙ due-missing _ _ _ (sym (c .before .before .before .command-at .ensures) ∙ c .before .enum-told .given .1)
+returns c = ap dueOf (c .refuse .ensures) ∙ due-missing _ _ _ (sym (c .before .before .before .command-at .ensures) ∙ c .before .enum-told .given .1)
 
 returns-2 : tie.Need-returns-2
-returns-2 c = ap stepOf (c .refuse2 .ensures) ∙ due-unknown _ _ _ (sym (c .before .before .before .command-at .ensures) ∙ c .before .enum-told2 .given .1)
+returns-2 c = ap dueOf (c .refuse2 .ensures) ∙ due-unknown _ _ _ (sym (c .before .before .before .command-at .ensures) ∙ c .before .enum-told2 .given .1)
 
 returns-3 : tie.Need-returns-3
 returns-3 c =
     let b = c .before .before .before .before in
-    ap stepOf (c .refuse3 .ensures) ∙ due-cut _ _ _ _ (sym (b .before .before .command-at .ensures) ∙ b .byte .given .1) (sym (c .before .before .is-allowed .ensures) ∙ c .before .if1 .taken)
+    ap dueOf (c .refuse3 .ensures) ∙ due-cut _ _ _ _ (sym (b .before .before .command-at .ensures) ∙ b .byte .given .1) (sym (c .before .before .is-allowed .ensures) ∙ c .before .if1 .taken)
 
 returns-4 : tie.Need-returns-4
 returns-4 c =
     let b = c .before .before .before .before in
-    ap stepOf (c .refuse4 .ensures) ∙ due-cut-other _ _ _ _ (sym (b .before .before .command-at .ensures) ∙ b .byte .given .1) (sym (c .before .before .is-allowed .ensures) ∙ c .before .if1 .left)
+    ap dueOf (c .refuse4 .ensures) ∙ due-cut-other _ _ _ _ (sym (b .before .before .command-at .ensures) ∙ b .byte .given .1) (sym (c .before .before .is-allowed .ensures) ∙ c .before .if1 .left)
 
 returns-5 : tie.Need-returns-5
 returns-5 c =
@@ -67,7 +67,7 @@ returns-5 c =
 returns-6 : tie.Need-returns-6
 returns-6 c =
     let b = c .before .before .before .before in
-    ap stepOf (c .refuse5 .ensures) ∙ due-other _ _ _ _ _ (sym (b .before .before .command-at .ensures) ∙ b .byte2 .given .1) (sym (c .before .before .is-allowed2 .ensures) ∙ c .before .if2 .left)
+    ap dueOf (c .refuse5 .ensures) ∙ due-other _ _ _ _ _ (sym (b .before .before .command-at .ensures) ∙ b .byte2 .given .1) (sym (c .before .before .is-allowed2 .ensures) ∙ c .before .if2 .left)
 
 pub command-due-spec : {M : Type 1} → statement M
 command-due-spec =

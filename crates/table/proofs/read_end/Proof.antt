@@ -3,7 +3,7 @@
 use borrow.Author.Needs.{needs}
 use mathlib.Core.Path.{sym, ap, _∙_}
 use Rattle.refusal.specs.Checked.{accepted}
-use Rattle.table.specs.Read.{stepOf, headed, answerOf}
+use Rattle.table.specs.Read.{dueOf, headed, tableReadOf}
 use Rattle.table.specs.ReadLaws.{end-refused, end-whole, end-more}
 use Rattle.table.proofs.read_end.Statement.{statement}
 use Rattle.table.proofs.read_end.Tie as tie
@@ -21,16 +21,16 @@ refused-requires : tie.Need-refused-requires
 refused-requires c κs = search needs
 
 returns : tie.Need-returns
-returns c t h = ap headed (end-refused _ t _ _ _ (ap stepOf (sym (c .before .x .given .1)) ∙ c .before .before .before .command-due .ensures))
+returns c t h = ap headed (end-refused _ t _ _ _ (ap dueOf (sym (c .before .x .given .1)) ∙ c .before .before .before .command-due .ensures))
 
 returns-2 : tie.Need-returns-2
 returns-2 c t h =
-    ap accepted (sym h) ∙ ap headed (end-whole _ t _ _ (ap stepOf (sym (c .before .before .next .given .1)) ∙ c .before .before .before .before .command-due .ensures) (c .if1 .taken))
+    ap accepted (sym h) ∙ ap headed (end-whole _ t _ _ (ap dueOf (sym (c .before .before .next .given .1)) ∙ c .before .before .before .before .command-due .ensures) (c .if1 .taken))
 
 returns-3 : tie.Need-returns-3
 returns-3 c t h =
-    ap answerOf (c .refused .ensures)
-    ∙ ap headed (end-more _ t _ _ (ap stepOf (sym (c .before .before .before .next .given .1)) ∙ c .before .before .before .before .before .command-due .ensures) (c .before .if1 .left))
+    ap tableReadOf (c .refused .ensures)
+    ∙ ap headed (end-more _ t _ _ (ap dueOf (sym (c .before .before .before .next .given .1)) ∙ c .before .before .before .before .before .command-due .ensures) (c .before .if1 .left))
 
 pub read-end-spec : {M : Type 1} → statement M
 read-end-spec =

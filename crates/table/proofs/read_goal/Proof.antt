@@ -4,7 +4,7 @@ use Prim.Native.Nat.{_+_}
 use borrow.Author.Needs.{needs}
 use mathlib.Core.Path.{sym, ap, _∙_}
 use Rattle.masks.specs.Sets.{within}
-use Rattle.table.specs.Read.{headed, answerOf}
+use Rattle.table.specs.Read.{headed, tableReadOf}
 use Rattle.table.specs.ReadLaws.{goal-in, goal-out}
 use Rattle.numbers.specs.Numbers.{numberAt}
 use Rattle.table.proofs.read_goal.Statement.{statement}
@@ -34,7 +34,7 @@ returns c js h =
 
 returns-2 : tie.Need-returns-2
 returns-2 c js h =
-    ap answerOf (c .refused .ensures)
+    ap tableReadOf (c .refused .ensures)
     ∙ ap headed (goal-out _ _ js _ _ (ap (within _) (sym (c .before .before .before .read-u64 .ensures)) ∙ sym (c .before .before .is-within .ensures) ∙ c .before .if1 .left))
 
 pub read-goal-spec : {M : Type 1} → statement M

@@ -3,7 +3,7 @@
 use native.Mathlib.Omega.{arith}
 use borrow.Author.Needs.{needs}
 use mathlib.Core.Path.{sym, ap, _∙_}
-use Rattle.table.specs.Read.{stepOf, headed, answerOf}
+use Rattle.table.specs.Read.{dueOf, headed, tableReadOf}
 use Rattle.table.specs.ReadLaws.{facts-inside, table-refused, table-facts, table-no-facts}
 use Rattle.table.proofs.read_table.Statement.{statement}
 use Rattle.table.proofs.read_table.Tie as tie
@@ -19,7 +19,7 @@ enum-known-next c = search needs
 
 shared-slice-read-facts : tie.Need-shared-slice-read-facts
 shared-slice-read-facts c =
-    let e = ap stepOf (sym (c .before .before .next .given .1)) ∙ c .before .before .before .before .command-due .ensures in
+    let e = ap dueOf (sym (c .before .before .next .given .1)) ∙ c .before .before .before .before .command-due .ensures in
     omega (arith, facts-inside _ _ _ e .1)
 
 facts-in-range-requires : tie.Need-facts-in-range-requires
@@ -32,17 +32,17 @@ refused-requires : tie.Need-refused-requires
 refused-requires c κs = search needs
 
 returns : tie.Need-returns
-returns c = ap headed (table-refused _ _ _ (ap stepOf (sym (c .before .x .given .1)) ∙ c .before .before .before .command-due .ensures))
+returns c = ap headed (table-refused _ _ _ (ap dueOf (sym (c .before .x .given .1)) ∙ c .before .before .before .command-due .ensures))
 
 returns-2 : tie.Need-returns-2
 returns-2 c =
-    let e = ap stepOf (sym (c .before .before .before .before .before .next .given .1)) ∙ c .before .before .before .before .before .before .before .command-due .ensures in
+    let e = ap dueOf (sym (c .before .before .before .before .before .next .given .1)) ∙ c .before .before .before .before .before .before .before .command-due .ensures in
     c .read-jobs .ensures ∙ ap headed (table-facts _ _ e (sym (c .before .before .facts-in-range .ensures) ∙ c .before .if1 .taken))
 
 returns-3 : tie.Need-returns-3
 returns-3 c =
-    let e = ap stepOf (sym (c .before .before .before .before .before .next .given .1)) ∙ c .before .before .before .before .before .before .before .command-due .ensures in
-    ap answerOf (c .refused .ensures) ∙ ap headed (table-no-facts _ _ e (sym (c .before .before .facts-in-range .ensures) ∙ c .before .if1 .left))
+    let e = ap dueOf (sym (c .before .before .before .before .before .next .given .1)) ∙ c .before .before .before .before .before .before .before .command-due .ensures in
+    ap tableReadOf (c .refused .ensures) ∙ ap headed (table-no-facts _ _ e (sym (c .before .before .facts-in-range .ensures) ∙ c .before .if1 .left))
 
 pub read-table-spec : {M : Type 1} → statement M
 read-table-spec =

@@ -1,8 +1,8 @@
--- `table::effects_overlap` meets its contract: each test of the code is one of the definition's, in its order.
+-- `job::effects_overlap` meets its contract: each test of the code is one of the definition's, in its order.
 -- Assumes nothing.
 use borrow.Author.Needs.{needs}
-use Rattle.table.proofs.effects_overlap.Statement.{statement}
-use Rattle.table.proofs.effects_overlap.Tie as tie
+use Rattle.job.proofs.effects_overlap.Statement.{statement}
+use Rattle.job.proofs.effects_overlap.Tie as tie
 
 share-fact-requires : tie.Need-share-fact-requires
 share-fact-requires c κs = search needs

@@ -1,10 +1,10 @@
--- `table::masks_in_range` meets its contract: each test of the code is one of the definition's, in its order.
+-- `job::masks_in_range` meets its contract: each test of the code is one of the definition's, in its order.
 -- Assumes nothing.
 use borrow.Author.Needs.{needs}
 use borrow.Author.Tests.{not-true, not-false}
 use mathlib.Core.Path.{sym, _∙_}
-use Rattle.table.proofs.masks_in_range.Statement.{statement}
-use Rattle.table.proofs.masks_in_range.Tie as tie
+use Rattle.job.proofs.masks_in_range.Statement.{statement}
+use Rattle.job.proofs.masks_in_range.Tie as tie
 
 is-within-requires : tie.Need-is-within-requires
 is-within-requires c κs = search needs

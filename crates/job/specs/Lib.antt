@@ -1,0 +1,4 @@
+pub mod Job
+pub mod Validation
+pub mod JobLaws
+pub mod ValidationLaws
