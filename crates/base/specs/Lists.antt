@@ -1,4 +1,4 @@
--- The first values of a function of the index, as a list.
+-- The first values of a function of the index, as a list; and what stands at an index.
 -- Assumes nothing.
 use mathlib.Core.Path.{_≡_, refl, ap, _∙_}
 use mathlib.Core.List.{List, [], _∷_, _++_}
@@ -29,3 +29,9 @@ module _ {A : Type 0} (f : ℕ → A) where
   pub prefix-same : (g : ℕ → A) (n : ℕ) → ((i : ℕ) → i < n → f i ≡ g i) → prefix f n ≡ prefix g n
   prefix-same g zero h = refl
   prefix-same g (suc n) h = rw (prefix-same g n (λ i l. h i (omega arith)), h n (omega arith))
+
+-- what stands past the end does not matter inside
+pub getD-inside : {A : Type 0} (l : List A) (i : ℕ) (d e : A) → i < length l → getD l i d ≡ getD l i e
+getD-inside [] i d e h = absurd (omega arith)
+getD-inside (x ∷ l) zero d e h = refl
+getD-inside (x ∷ l) (suc i) d e h = getD-inside l i d e (omega arith)

@@ -9,8 +9,9 @@ use lib.ListN.{length, getD, drop}
 use Rattle.base.specs.Bools.{if_then_else_}
 use Rattle.refusal.specs.Checked.{Checked, accepted, refused, refusedBy}
 use Rattle.conditions.specs.Condition.{Condition}
-use Rattle.table.specs.declared.Job.{Job}
-use Rattle.table.specs.Table.{Table, noJob, actionOf}
+use Rattle.job.specs.declared.Job.{Job}
+use Rattle.job.specs.Job.{noJob, actionOf}
+use Rattle.table.specs.Table.{Table}
 use Rattle.planning.specs.Domain.{Domain}
 use Rattle.planning.specs.Expansion.{Entry, Outcome, entries}
 use Rattle.planning.specs.Facts.{Actions, unitDomain, factPlan}

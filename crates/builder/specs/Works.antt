@@ -13,7 +13,8 @@ use Rattle.reading.specs.declared.Reading.{Reading}
 use Rattle.reading.specs.Reading.{sound, Completes, state}
 use Rattle.conditions.specs.Condition.{Condition, needed}
 use Rattle.conditions.specs.OnReading.{Confirmed}
-use Rattle.table.specs.Table.{Table, actionOf}
+use Rattle.job.specs.Job.{actionOf}
+use Rattle.table.specs.Table.{Table}
 use Rattle.tree.specs.declared.Status.the-variants.{Failure, Running, Unsettled}
 use Rattle.tree.specs.Tick.{Verdict}
 use Rattle.tree.specs.TickBytes.{tickBytes, answered}

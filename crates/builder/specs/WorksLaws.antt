@@ -9,7 +9,8 @@ use mathlib.Core.List.{List, [], _∷_}
 use mathlib.Core.Logic.{_↔_, _⊎_, inl, inr, ⊎-elim}
 use lib.Dec.{T, leb, leb→le}
 use lib.ListN.{length, getD}
-use Rattle.base.specs.Bools.{holds, is-true, and-left, and-right}
+use Rattle.base.specs.Bools.{holds, is-true, and-right}
+use Rattle.base.specs.Lists.{getD-inside}
 use Rattle.masks.specs.Sets.{intersects, within}
 use Rattle.refusal.specs.Checked.{Checked, accepted, refused}
 use Rattle.refusal.specs.CheckedLaws.{not-both, accepted-same}
@@ -20,7 +21,9 @@ use Rattle.conditions.specs.Condition.{Condition, needed, conditionWithin}
 use Rattle.conditions.specs.OnReading.{Confirmed}
 use Rattle.conditions.specs.OnReadingLaws.{regressed-confirmed}
 use Rattle.numbers.specs.Numbers.{AreBytes}
-use Rattle.table.specs.Table.{Table, actionOf}
+use Rattle.job.specs.Job.{actionOf}
+use Rattle.job.specs.ValidationLaws.{action-within}
+use Rattle.table.specs.Table.{Table}
 use Rattle.table.specs.Read.{readTable}
 use Rattle.table.specs.RoundTripLaws.{read-sound}
 use Rattle.planning.specs.Domain.{Domain}
@@ -47,11 +50,6 @@ use Rattle.builder.specs.PlanLaws.{listed-entries, plan-list, refused-to
 use Rattle.builder.specs.Works.{Ticks, Works, FewestJobs, Irredundant, NoRoom}
 
 -- ---- the tick of a list's tree, where the list has at least an entry
-
-getD-inside : {A : Type 0} (l : List A) (i : ℕ) (d e : A) → i < length l → getD l i d ≡ getD l i e
-getD-inside [] i d e h = absurd (omega arith)
-getD-inside (x ∷ l) zero d e h = refl
-getD-inside (x ∷ l) (suc i) d e h = getD-inside l i d e (omega arith)
 
 module _ (A : Actions) (goal : Condition) where
   abbrev F : Domain ℕ Condition ℕ

@@ -9,8 +9,9 @@ use Rattle.refusal.specs.Checked.{Checked, accepted, refused, refusedBy, andThe
 use Rattle.reading.specs.declared.Reading.{Reading}
 use Rattle.reading.specs.Reading.{sound}
 use Rattle.conditions.specs.Condition.{Condition}
-use Rattle.table.specs.declared.Job.{Job}
-use Rattle.table.specs.Table.{Table, noJob}
+use Rattle.job.specs.declared.Job.{Job}
+use Rattle.job.specs.Job.{noJob}
+use Rattle.table.specs.Table.{Table}
 use Rattle.table.specs.Read.{readTable}
 use Rattle.planning.specs.Listing.{path}
 use Rattle.planning.specs.Expansion.{Entry, listing}

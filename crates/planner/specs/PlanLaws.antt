@@ -1,272 +1,189 @@
 -- What the parts of the code leave comes to the plan that the definition gives.
 -- Assumes nothing.
-use Prim.Native.Nat.{ℕ, suc, _+_, _-_, _*_, _≤_, _<_}
+use Prim.Native.Nat.{ℕ, suc, _-_, _≤_, _<_}
 use native.Mathlib.Omega.{arith}
-use mathlib.Core.Path.{_≡_, refl, sym, ap, _∙_, subst}
-use mathlib.Core.Bool.{Bool, true, false}
-use mathlib.Core.List.{List, [], _++_, map}
-use lib.Dec.{leb}
-use lib.ListN.{length, getD, drop, length-append, length-drop, length-map}
-use borrow.Author.Tests.{le-leb, lt-leb, eq-eqb, ne-eqb}
-use Rattle.base.specs.Bools.{if_then_else_}
-use Rattle.base.specs.Lists.{length-prefix, getD-prefix}
-use Rattle.refusal.specs.Checked.{Checked, accepted, refused, andThen}
+use mathlib.Core.Path.{_≡_, refl, sym, ap, _∙_}
+use mathlib.Core.Bool.{true, false}
+use mathlib.Core.List.{List, _++_, map}
+use lib.Dec.{eqb}
+use lib.ListN.{length, getD, drop, length-append, length-map, List·getD-append, List·getD-map}
+use borrow.Author.Tests.{eq-eqb, ne-eqb}
+use Rattle.base.specs.Lists.{getD-inside}
+use Rattle.refusal.specs.Checked.{Checked, accepted, refused}
+use Rattle.refusal.specs.CheckedLaws.{not-both, accepted-same, accepted-then, accepted-if}
 use Rattle.reading.specs.declared.Reading.{Reading}
 use Rattle.reading.specs.Reading.{sound}
+use Rattle.conditions.specs.Condition.{Condition}
+use Rattle.table.specs.declared.Header.{Header}
 use Rattle.table.specs.Table.{Table}
-use Rattle.table.specs.Read.{readTable}
+use Rattle.table.specs.Read.{readTable, headed}
 use Rattle.planning.specs.Domain.{Domain}
 use Rattle.planning.specs.Listing.{path}
 use Rattle.planning.specs.PathLaws.{path-same}
-use Rattle.planning.specs.Expansion.{Entry, Outcome, exhausted, covered, full, entries, entryIn, listing}
-use Rattle.planning.specs.Columns.{entryAt, entriesOf}
-use Rattle.planning.specs.Facts.{Actions}
-use Rattle.planning.specs.FactLaws.{fact-plannable}
-use Rattle.planning.specs.DemandLaws.{planned-path}
-use Rattle.masks.specs.Sets.{subset}
+use Rattle.planning.specs.Expansion.{Entry, Outcome, exhausted, covered, full, entries, entryIn, root, listing}
+use Rattle.planning.specs.Facts.{factPlan}
+use Rattle.planning.specs.FactLaws.{fact-plannable, fact-start-first}
+use Rattle.planning.specs.DemandLaws.{planned-fits, planned-good, planned-action, planned-path}
 use Rattle.minutes.specs.Minutes.{nearest}
-use Rattle.expander.specs.declared.Expanded.{Expanded}
-use Rattle.expander.specs.declared.Expanded.the-variants as X
-use Rattle.expander.specs.Expands.{Columns, over, room, held, outcomeOf, planIn, Expands}
-use Rattle.expander.specs.ExpandsLaws.{capacity-conditions, capacity-actions, capacity-parents, capacity-depths, held-length, list-length, entry-held, stored-fits, stored-small, stored-action, stored-parent, stored}
+use Rattle.expander.specs.declared.Until.{Until}
+use Rattle.expander.specs.declared.Until.the-variants.{Covers}
+use Rattle.expander.specs.Expands.{Columns, over, written, endedBy, listedBy, room}
 use Rattle.flat.specs.TreeBytes.{treeBytes}
-use Rattle.flat.specs.TreeBytesLaws.{lines, tree-length}
-use Rattle.flat.specs.FlatLaws.{tree-columns}
+use Rattle.builder.specs.declared.Size.{Size}
+use Rattle.builder.specs.Plan.{tableActions, tableDomain, Plan, noPlan, planBy, tablePlan, afterChecks, sizeOf, WritesPlan}
+use Rattle.builder.specs.PlanLaws.{whole-told, listed-entries, plan-list, writes-other, writes-refused, writes-nothing}
 use Rattle.planner.specs.declared.Summary.{Summary}
-use Rattle.planner.specs.declared.Size.{Size}
-use Rattle.planner.specs.Plan.{tableActions, tableDomain, wayOf, secondsOf, Laid, stopped, unlaid, built, withTree, summaryOf, laidBy, laidFor, laidFrom, laid, sizeOf, shiftBy, shiftFor, shift, LaysTree, Lays}
-use Rattle.planner.specs.Way.{linked, Stored}
-
--- ---- the tree
-
-module _ (conditions actions : List ℕ) (n : ℕ) where
-  abbrev drawn : List (Entry ℕ)
-  drawn = lines conditions actions n
-
-  drawn-size : length drawn ≡ n
-  drawn-size = length-prefix (entryAt conditions actions [] []) n
-
-  -- a lent tree that is too short stays as it is, and in one that is not the tree of the list stands at the front
-  module _ (some : 1 ≤ n) (lent tree : List ℕ) (told : Checked Size) where
-    drawn-tree : length (treeBytes drawn) ≡ 14 * n - 1
-    drawn-tree = omega (arith, tree-length drawn (omega (arith, drawn-size)), drawn-size)
-
-    -- 12: the lent tree is too short, and stays as it is
-    pub lay-short : length lent < 14 * n - 1 → lent ≡ tree → told ≡ refused 12 n → LaysTree (withTree (length lent) (sizeOf drawn) drawn) lent tree told
-    lay-short h same a =
-        let no : leb (14 * length drawn - 1) (length lent) ≡ false = lt-leb (14 * length drawn - 1) (length lent) (omega (arith, h, drawn-size)) in
-        rw no (record { answer = a ∙ ap (refused 12) (sym drawn-size); tree-written = sym same })
-
-    pub lay-written : 14 * n - 1 ≤ length lent → tree ≡ treeBytes drawn ++ drop (14 * n - 1) lent
-        → told ≡ accepted (record { entries = n; bytes = 14 * n - 1 }) → LaysTree (withTree (length lent) (sizeOf drawn) drawn) lent tree told
-    lay-written h written a =
-        let fits : leb (14 * length drawn - 1) (length lent) ≡ true = le-leb (14 * length drawn - 1) (length lent) (omega (arith, h, drawn-size)) in
-        rw fits
-        (record {
-          answer = a ∙ ap (λ (k : ℕ). accepted (record { entries = k; bytes = 14 * k - 1 })) (sym drawn-size);
-          tree-written = written ∙ ap (λ (k : ℕ). treeBytes drawn ++ drop k lent) (sym drawn-tree);
-        })
-
--- the same tree, of a list that has the same conditions and actions, with another answer
-module _ {A B : Type 0} (room : ℕ) (l m : List (Entry ℕ)) (sizes : length l ≡ length m) (trees : treeBytes l ≡ treeBytes m)
-    (a : A) (b : B) (f : A → B) (same : f a ≡ b) (lent tree : List ℕ) (told : Checked A) where
-  pub retold : LaysTree (withTree room a l) lent tree told → LaysTree (withTree room b m) lent tree (andThen told (λ x. accepted (f x)))
-  retold = rw (← sizes, ← trees) (by-room (leb (14 * length l - 1) room))
-    where
-      by-room : (fits : Bool) → LaysTree (if fits then built a l else stopped 12 l) lent tree told
-          → LaysTree (if fits then record { answer = accepted b; list = m; tree = treeBytes l } else record { answer = refused 12 (length l); list = m; tree = [] })
-          lent tree (andThen told (λ x. accepted (f x)))
-      by-room true L = record { answer = ap (λ (t : Checked A). andThen t (λ x. accepted (f x))) (L .answer) ∙ ap accepted same; tree-written = L .tree-written }
-      by-room false L = record { answer = ap (λ (t : Checked A). andThen t (λ x. accepted (f x))) (L .answer); tree-written = L .tree-written }
-
--- ---- the way with its time
-
-module _ (t : Table) (conditions actions parents depths : List ℕ) (n : ℕ) (S : Stored (length (t .jobs)) n conditions actions parents depths) where
-  abbrev list : List (Entry ℕ)
-  list = entriesOf conditions actions parents depths n
-
-  size : length list ≡ n
-  size = length-prefix (entryAt conditions actions parents depths) n
-
-  entry-is : (i : ℕ) → i < n → entryIn (tableDomain t) list i ≡ entryAt conditions actions parents depths i
-  entry-is i h = getD-prefix (entryAt conditions actions parents depths) n i _ h
-
-  way-is : wayOf t list ≡ path (linked actions parents) (n - 1)
-  way-is =
-      ap (λ (k : ℕ). path (listing (tableDomain t) list) (k - 1)) size
-      ∙ path-same (linked actions parents) n (S .links .earlier) (listing (tableDomain t) list) (λ i h. ap (λ x. x .action) (entry-is (suc i) h))
-      (λ i h. ap (λ x. x .parent) (entry-is (suc i) h)) (n - 1) (omega (arith, S .some))
-
-  -- the tree is laid, and the way measured
-  pub lay-way : (lent tree : List ℕ) (told : Checked Size) (seconds : ℕ) → seconds ≡ secondsOf (t .jobs) (path (linked actions parents) (n - 1))
-      → LaysTree (withTree (length lent) (sizeOf (lines conditions actions n)) (lines conditions actions n)) lent tree told
-      → LaysTree (laidBy t (length lent) (covered list)) lent tree
-      (andThen told (λ x. accepted (record { entries = x .entries; bytes = x .bytes; jobs = getD depths (n - 1) 0; minutes = nearest seconds })))
-  lay-way lent tree told seconds s =
-      let jobs : getD depths (n - 1) 0 ≡ length (wayOf t list) = sym (S .last-depth) ∙ ap length (sym way-is) in
-      let time : seconds ≡ secondsOf (t .jobs) (wayOf t list) = s ∙ ap (secondsOf (t .jobs)) (sym way-is) in
-      retold (length lent) (lines conditions actions n) list (drawn-size conditions actions n ∙ sym size) (sym (tree-columns conditions actions parents depths n))
-      (sizeOf (lines conditions actions n)) (summaryOf t list)
-      (λ x. record { entries = x .entries; bytes = x .bytes; jobs = getD depths (n - 1) 0; minutes = nearest seconds })
-      (rw (jobs, time, drawn-size conditions actions n, size)) lent tree told
-
--- ---- the list, and what it says of the columns
-
-by-room-list : {Told : Type 0} (b : Bool) (told : Told) (l : List (Entry ℕ)) → (if b then built told l else stopped 12 l) .list ≡ l
-by-room-list true told l = refl
-by-room-list false told l = refl
-
-pub laid-list : (t : Table) (n : ℕ) (o : Outcome ℕ) → laidBy t n o .list ≡ entries o
-laid-list t n (exhausted l) = refl
-laid-list t n (full l) = refl
-laid-list t n (covered l) = by-room-list (leb (14 * length l - 1) n) (summaryOf t l) l
-
-pub shift-list : (n : ℕ) (o : Outcome ℕ) → shiftBy n o .list ≡ entries o
-shift-list n (exhausted l) = by-room-list (leb (14 * length l - 1) n) (sizeOf l) l
-shift-list n (full l) = refl
-shift-list n (covered l) = by-room-list (leb (14 * length l - 1) n) (sizeOf l) l
-
--- either plan answers by how the list ended, as it stands in the list tables
-module _ {Told : Type 0} (by : Outcome ℕ → Laid Told) (lists : (o : Outcome ℕ) → by o .list ≡ entries o)
-    {A : Actions} {goal : ℕ} {stop : ℕ → Bool} {before after : Columns} {x : Expanded} (E : Expands A goal stop before after x)
-    (lent tree : List ℕ) (told : Checked Told) where
-  lays-by : LaysTree (by (outcomeOf x after)) lent tree told → Lays (by (planIn before A goal stop)) before after lent tree told
-  lays-by L =
-      let l = lists (planIn before A goal stop) in
-      record {
-        conditions = E .conditions ∙ ap (λ (l : List (Entry ℕ)). over (λ x. x .condition) l (before .conditions)) (sym l);
-        actions = E .actions ∙ ap (λ (l : List (Entry ℕ)). over (λ x. x .action) l (before .actions)) (sym l);
-        parents = E .parents ∙ ap (λ (l : List (Entry ℕ)). over (λ x. x .parent) l (before .parents)) (sym l);
-        depths = E .depths ∙ ap (λ (l : List (Entry ℕ)). over (λ x. x .depth) l (before .depths)) (sym l);
-        answer-and-tree = subst (λ (o : Outcome ℕ). LaysTree (by o) lent tree told) (E .outcome) L;
-      }
-
--- no tree is written
-stops : {Told : Type 0} (number : ℕ) (after : Columns) (n : ℕ) (lent : List ℕ) (told : Checked Told) → told ≡ refused number n
-    → LaysTree (stopped number (held after n)) lent lent told
-stops number after n lent told a = record { answer = a ∙ ap (refused number) (sym (held-length after n)); tree-written = refl }
-
--- ---- the plan for a start
-
-module _ (t : Table) (start : ℕ) (before after : Columns) (x : Expanded) (E : Expands (tableActions t) (t .goal) (λ c. subset c start) before after x) (lent : List ℕ)
-    (told : Checked Summary) where
-  pub lays-from : (tree : List ℕ) → LaysTree (laidBy t (length lent) (outcomeOf x after)) lent tree told
-      → Lays (laidFor t start (room before) (length lent)) before after lent tree told
-  unfolding laidFor
-  lays-from tree = lays-by (laidBy t (length lent)) (laid-list t (length lent)) E lent tree told
-
-  -- the list is full, or no way was found
-  pub lays-full : (n : ℕ) → x ≡ X.Full n → told ≡ refused 10 n → Lays (laidFor t start (room before) (length lent)) before after lent lent told
-  lays-full n e a = lays-from lent (rw e (stops 10 after n lent told a))
-
-  pub lays-no-way : (n : ℕ) → x ≡ X.Exhausted n → told ≡ refused 11 n → Lays (laidFor t start (room before) (length lent)) before after lent lent told
-  lays-no-way n e a = lays-from lent (rw e (stops 11 after n lent told a))
-
--- ---- the plan for the whole shift
-
-module _ (t : Table) (before after : Columns) (x : Expanded) (E : Expands (tableActions t) (t .goal) (λ c. false) before after x) (lent : List ℕ)
-    (told : Checked Size) where
-  shift-lays : (tree : List ℕ) → LaysTree (shiftBy (length lent) (outcomeOf x after)) lent tree told
-      → Lays (shiftFor t (room before) (length lent)) before after lent tree told
-  unfolding shiftFor
-  shift-lays tree = lays-by (shiftBy (length lent)) (shift-list (length lent)) E lent tree told
-
-  pub shift-full : (n : ℕ) → x ≡ X.Full n → told ≡ refused 10 n → Lays (shiftFor t (room before) (length lent)) before after lent lent told
-  shift-full n e a = shift-lays lent (rw e (stops 10 after n lent told a))
-
-  module _ (n : ℕ) (tree : List ℕ) (L : LaysTree (withTree (length lent) (sizeOf (lines (after .conditions) (after .actions) n)) (lines (after .conditions) (after .actions) n)) lent tree told) where
-    shift-tree : LaysTree (withTree (length lent) (sizeOf (held after n)) (held after n)) lent tree told
-    shift-tree =
-        let drawn = lines (after .conditions) (after .actions) n in
-        let sizes : length drawn ≡ length (held after n) = drawn-size (after .conditions) (after .actions) n ∙ sym (held-length after n) in
-        subst (LaysTree (withTree (length lent) (sizeOf (held after n)) (held after n)) lent tree) (as-told told)
-        (retold (length lent) drawn (held after n) sizes (sym (tree-columns (after .conditions) (after .actions) (after .parents) (after .depths) n))
-        (sizeOf drawn) (sizeOf (held after n)) (λ x. x) (rw sizes) lent tree told L)
-      where
-        as-told : (c : Checked Size) → andThen c (λ x. accepted x) ≡ c
-        as-told (accepted x) = refl
-        as-told (refused n p) = refl
-
-    pub shift-exhausted : x ≡ X.Exhausted n → Lays (shiftFor t (room before) (length lent)) before after lent tree told
-    shift-exhausted e = shift-lays tree (rw e shift-tree)
-
-    pub shift-covered : x ≡ X.Covered n → Lays (shiftFor t (room before) (length lent)) before after lent tree told
-    shift-covered e = shift-lays tree (rw e shift-tree)
-
--- ---- what stands in the columns
-
-over-length : (field : Entry ℕ → ℕ) (l : List (Entry ℕ)) (xs : List ℕ) → length l ≤ length xs → length (over field l xs) ≡ length xs
-over-length field l xs h = omega (arith, length-append (map field l) (drop (length l) xs), length-map l field, length-drop (length l) xs)
-
-module _ (t : Table) (stop : ℕ → Bool) (before after : Columns) (x : Expanded) (E : Expands (tableActions t) (t .goal) stop before after x) where
-  abbrev D : Domain ℕ ℕ ℕ
-  D = tableDomain t
-
-  abbrev planned : List (Entry ℕ)
-  planned = entries (planIn before (tableActions t) (t .goal) stop)
-
-  stands : (field : Entry ℕ → ℕ) (xs ys : List ℕ) → xs ≡ over field planned ys → room before ≤ length ys → stored x ≤ length xs
-  stands field xs ys e h = omega (arith, ap length e, over-length field planned ys (omega (arith, list-length E, stored-fits E, h)), list-length E, stored-fits E, h)
-
-  way-length : (i : ℕ) → stored x ≡ suc i → length (path (linked (after .actions) (after .parents)) i) ≡ getD (after .depths) i 0
-  way-length i e =
-      ap length (sym (path-same (linked (after .actions) (after .parents)) (stored x) (λ k h. stored-parent E (suc k) h (omega arith)) (listing D planned)
-      (λ k h. sym (ap (λ x. x .action) (entry-held E (suc k) h))) (λ k h. sym (ap (λ x. x .parent) (entry-held E (suc k) h))) i (omega (arith, e))))
-      ∙ planned-path (fact-plannable (tableActions t) (t .goal)) (room before) stop i (omega (arith, e, list-length E))
-      ∙ sym (ap (λ x. x .depth) (entry-held E i (omega (arith, e))))
-
-  -- the list, where it has an entry
-  pub stored-from : 1 ≤ stored x → Stored (length (t .jobs)) (stored x) (after .conditions) (after .actions) (after .parents) (after .depths)
-  stored-from some =
-      let c = length (before .conditions) in
-      let a = length (before .actions) in
-      let p = length (before .parents) in
-      let d = length (before .depths) in
-      record {
-        some = some;
-        conditions-held = stands (λ x. x .condition) (after .conditions) (before .conditions) (E .conditions) (capacity-conditions c a p d);
-        depths-held = stands (λ x. x .depth) (after .depths) (before .depths) (E .depths) (capacity-depths c a p d);
-        links = record {
-          few = stored-small E;
-          actions-held = stands (λ x. x .action) (after .actions) (before .actions) (E .actions) (capacity-actions c a p d);
-          parents-held = stands (λ x. x .parent) (after .parents) (before .parents) (E .parents) (capacity-parents c a p d);
-          known = λ i h. stored-action E (suc i) h (omega arith);
-          earlier = λ i h. stored-parent E (suc i) h (omega arith);
-        };
-        last-depth = way-length (stored x - 1) (omega arith);
-      }
+use Rattle.planner.specs.Plan.{wayOf, secondsOf, summaryOf, startFor, planFor}
+use Rattle.planner.specs.Way.{linked, Linked, Traced}
 
 -- ---- the checks before the plan
 
-module _ (table : List ℕ) (start : Reading) (capacity room : ℕ) where
-  pub laid-refused : (n p : ℕ) → refused n p ≡ readTable table → unlaid n p ≡ laid table start capacity room
-  unfolding laid
-  laid-refused n p e = rw (← e)
+module _ (table : List ℕ) (start : Reading) where
+  pub start-refused : (n p : ℕ) → refused n p ≡ readTable table → refused n p ≡ startFor table start
+  unfolding startFor
+  start-refused n p e = rw (← e)
 
   module _ (t : Table) (e : accepted t ≡ readTable table) where
-    pub laid-unsound : sound (t .facts) start ≡ false → unlaid 8 0 ≡ laid table start capacity room
-    unfolding laid laidFrom
-    laid-unsound s = rw (← e, s)
+    pub start-unsound : sound (t .facts) start ≡ false → refused 8 0 ≡ startFor table start
+    unfolding startFor
+    start-unsound s = rw (← e, s)
 
     module _ (s : sound (t .facts) start ≡ true) where
-      pub laid-unread : (start .unread ≡ 0 → ⊥) → unlaid 9 0 ≡ laid table start capacity room
-      unfolding laid laidFrom
-      laid-unread u = rw (← e, s, ne-eqb (start .unread) 0 u)
+      pub start-unread : (start .unread ≡ 0 → ⊥) → refused 9 0 ≡ startFor table start
+      unfolding startFor
+      start-unread u = rw (← e, s, ne-eqb (start .unread) 0 u)
 
-      pub laid-state : start .unread ≡ 0 → laidFor t (start .held) capacity room ≡ laid table start capacity room
-      unfolding laid laidFrom
-      laid-state u = rw (← e, s, eq-eqb (start .unread) 0 u)
+      pub start-read : start .unread ≡ 0 → accepted t ≡ startFor table start
+      unfolding startFor
+      start-read u = rw (← e, s, eq-eqb (start .unread) 0 u)
 
-module _ (table : List ℕ) (capacity room : ℕ) where
-  pub shift-refused : (n p : ℕ) → refused n p ≡ readTable table → unlaid n p ≡ shift table capacity room
-  unfolding shift
-  shift-refused n p e = rw (← e)
+  -- a start that passed leaves the table as it was read
+  pub start-table : (t : Table) → startFor table start ≡ accepted t → readTable table ≡ accepted t
+  unfolding startFor
+  start-table t e =
+      let w = accepted-then (readTable table) _ t e in
+      let s = accepted-if (sound (w .0 .facts) start) _ 8 0 t (w .2) in
+      let u = accepted-if (eqb (start .unread) 0) (accepted (w .0)) 9 0 t (s .1) in
+      w .1 ∙ u .1
 
-  pub shift-read : (t : Table) → accepted t ≡ readTable table → shiftFor t capacity room ≡ shift table capacity room
-  unfolding shift
-  shift-read t e = rw (← e)
+  module _ (capacity size : ℕ) where
+    pub plan-refused : (n p : ℕ) → refused n p ≡ startFor table start → noPlan n p ≡ planFor table start capacity size
+    unfolding planFor
+    plan-refused n p e = rw (← e)
 
--- nothing is written
-pub lays-nothing : {Told : Type 0} (n p : ℕ) (before : Columns) (lent : List ℕ) (told : Checked Told) → told ≡ refused n p → Lays (unlaid n p) before before lent lent told
-lays-nothing n p before lent told a =
-    record { conditions = refl; actions = refl; parents = refl; depths = refl; answer-and-tree = record { answer = a; tree-written = refl } }
+    pub plan-started : (t : Table) → accepted t ≡ startFor table start
+        → tablePlan (Covers (start .held)) t capacity size (summaryOf t) ≡ planFor table start capacity size
+    unfolding planFor
+    plan-started t e = rw (← e)
+
+-- ---- the list in the columns
+
+over-at : (field : Entry Condition → ℕ) (l : List (Entry Condition)) (xs : List ℕ) (i : ℕ) (d : Entry Condition) → i < length l
+    → getD (over field l xs) i 0 ≡ field (getD l i d)
+over-at field l xs i d h =
+    let inside : i < length (map field l) = omega (arith, length-map l field) in
+    List·getD-append (map field l) (drop (length l) xs) 0 i inside ∙ getD-inside (map field l) i 0 (field d) inside ∙ List·getD-map field l i d
+
+over-long : (field : Entry Condition → ℕ) (l : List (Entry Condition)) (xs : List ℕ) → length l ≤ length (over field l xs)
+over-long field l xs = omega (arith, length-append (map field l) (drop (length l) xs), length-map l field)
+
+-- Of a table, room for so many entries, what ends its list, and the tables that the list is written to:
+module _ (t : Table) (capacity : ℕ) (few : capacity ≤ 4096) (until : Until) (before : Columns) where
+  abbrev D : Domain ℕ Condition ℕ
+  D = tableDomain t
+
+  abbrev list : List (Entry Condition)
+  list = entries (factPlan (tableActions t) (t .goal) capacity (endedBy until))
+
+  abbrev after : Columns
+  after = written list before
+
+  action-is : (i : ℕ) → i < length list → getD (after .actions) i 0 ≡ entryIn D list i .action
+  action-is i h = over-at (λ x. x .action) list (before .actions) i (root D) h
+
+  parent-is : (i : ℕ) → i < length list → getD (after .parents) i 0 ≡ entryIn D list i .parent
+  parent-is i h = over-at (λ x. x .parent) list (before .parents) i (root D) h
+
+  depth-is : (i : ℕ) → i < length list → getD (after .depths) i 0 ≡ entryIn D list i .depth
+  depth-is i h = over-at (λ x. x .depth) list (before .depths) i (root D) h
+
+  links : Linked (length (t .jobs)) (length list) (after .actions) (after .parents)
+  links =
+      let P = fact-plannable (tableActions t) (t .goal) in
+      record {
+        few = omega (arith, few, planned-fits P capacity (endedBy until));
+        actions-held = over-long (λ x. x .action) list (before .actions);
+        parents-held = over-long (λ x. x .parent) list (before .parents);
+        known = λ i h. rw (action-is (suc i) h) (planned-action P capacity (endedBy until) (suc i) (omega arith) h);
+        earlier = λ i h. rw (parent-is (suc i) h) (planned-good P capacity (endedBy until) (omega arith) .derived (suc i) (omega arith) h .parent-before);
+      }
+
+  way-is : (i : ℕ) → i < length list → path (listing D list) i ≡ path (linked (after .actions) (after .parents)) i
+  way-is =
+      path-same (linked (after .actions) (after .parents)) (length list) (links .earlier) (listing D list) (λ i h. sym (action-is (suc i) h))
+      (λ i h. sym (parent-is (suc i) h))
+
+  -- the way of the last entry can be followed in the columns
+  pub traced : 1 ≤ length list → Traced (length (t .jobs)) (length list) (after .actions) (after .parents) (after .depths)
+  traced some =
+      let inside : length list - 1 < length list = omega arith in
+      record {
+        some = some;
+        depths-held = over-long (λ x. x .depth) list (before .depths);
+        links = links;
+        last-depth =
+            depth-is (length list - 1) inside ∙ sym (planned-path (fact-plannable (tableActions t) (t .goal)) capacity (endedBy until) (length list - 1) inside)
+            ∙ ap length (way-is (length list - 1) inside);
+      }
+
+  -- and it is the list's own
+  pub way-held : 1 ≤ length list → path (linked (after .actions) (after .parents)) (length list - 1) ≡ wayOf t list
+  way-held some = sym (way-is (length list - 1) (omega arith))
+
+-- ---- from the size of a list and its tree to what a plan has to tell
+
+-- a list that covers a start was ended by a condition that the start meets
+pub covered-told : (start : ℕ) (o : Outcome Condition) (l : List (Entry Condition)) → listedBy (Covers start) o ≡ accepted l → o ≡ covered l
+covered-told start (full m) l e = absurd (not-both e)
+covered-told start (exhausted m) l e = absurd (not-both e)
+covered-told start (covered m) l e = ap covered (accepted-same e)
+
+module _ (t : Table) (start : ℕ) (before after : Columns) (few : room before ≤ 4096) (lent tree : List ℕ) (size : Size)
+    (W : WritesPlan (tablePlan (Covers start) t (room before) (length lent) sizeOf) before after lent tree (accepted size)) where
+  abbrev ending : Outcome Condition
+  ending = factPlan (tableActions t) (t .goal) (room before) (endedBy (Covers start))
+
+  -- the list that was built, and that it has an entry
+  record Found : Type 0 where
+    sized : size ≡ sizeOf (entries ending)
+    some : 1 ≤ length (entries ending)
+    tables : after ≡ written (entries ending) before
+
+  found : Found
+  unfolding tablePlan
+  found =
+      let w = whole-told (Covers start) (length lent) sizeOf ending size (sym (W .answer-and-tree .answer)) in
+      let l = listed-entries (Covers start) ending (w .list) (w .listed) in
+      let n = fact-start-first (tableActions t) (t .goal) (room before) start (w .list) (covered-told start ending (w .list) (w .listed)) in
+      record {
+        sized = w .told-is ∙ ap sizeOf l;
+        some = omega (arith, n .1, ap length l);
+        tables = W .tables ∙ ap (λ (m : List (Entry Condition)). written m before) (plan-list (Covers start) (length lent) sizeOf ending);
+      }
+
+  pub size-traced : Traced (length (t .jobs)) (size .entries) (after .actions) (after .parents) (after .depths)
+  size-traced = rw (found .sized, found .tables) (traced t (room before) few (Covers start) before (found .some))
+
+  -- the way in the columns, with its time
+  abbrev way : List ℕ
+  way = path (linked (after .actions) (after .parents)) (size .entries - 1)
+
+  pub writes-summary : WritesPlan (tablePlan (Covers start) t (room before) (length lent) (summaryOf t)) before after lent tree
+      (accepted (record { entries = size .entries; bytes = size .bytes; jobs = length way; minutes = nearest (secondsOf (t .jobs) way) }))
+  unfolding tablePlan
+  writes-summary =
+      writes-other (Covers start) (length lent) sizeOf (summaryOf t) ending before after lent tree size _ W
+      (λ l s q. rw (s, q, way-found))
+    where
+      way-found : way ≡ wayOf t (entries ending)
+      way-found = rw (found .sized, found .tables) (way-held t (room before) few (Covers start) before (found .some))

@@ -20,12 +20,12 @@ use Rattle.numbers.specs.Numbers.{AreBytes}
 use Rattle.table.specs.Table.{Table}
 use Rattle.table.specs.Read.{readTable}
 use Rattle.planning.specs.Sequence.{Reaches}
-use Rattle.planning.specs.Expansion.{Entry, Outcome, exhausted, covered, full, entries}
+use Rattle.planning.specs.Expansion.{Outcome, entries}
 use Rattle.planning.specs.Demand.{FirstIn}
 use Rattle.planning.specs.Facts.{startPlan}
 use Rattle.planning.specs.FactLaws.{fact-start-first, fact-no-way}
 use Rattle.expander.specs.declared.Until.the-variants.{Covers}
-use Rattle.expander.specs.Expands.{Columns, room, listedBy}
+use Rattle.expander.specs.Expands.{Columns, room}
 use Rattle.expander.specs.ExpandsLaws.{capacity-most}
 use Rattle.builder.specs.Plan.{tableActions, tableDomain, Plan, noPlan, planBy, tablePlan, afterChecks, WritesPlan}
 use Rattle.builder.specs.PlanLaws.{plan-list, whole-told}
@@ -34,13 +34,8 @@ use Rattle.builder.specs.WorksLaws.{list-irredundant, list-works, plan-stops}
 use Rattle.planner.specs.declared.Summary.{Summary}
 use Rattle.planner.specs.declared.Planned.{Planned}
 use Rattle.planner.specs.Plan.{summaryOf, startFor, planFor, plannedOf}
+use Rattle.planner.specs.PlanLaws.{covered-told}
 use Rattle.planner.specs.Promise.{Keeps, Plans}
-
--- a list that covers a start was ended by a condition that the start meets
-covered-told : (start : ℕ) (o : Outcome Condition) (l : List (Entry Condition)) → listedBy (Covers start) o ≡ accepted l → o ≡ covered l
-covered-told start (full m) l e = absurd (not-both e)
-covered-told start (exhausted m) l e = absurd (not-both e)
-covered-told start (covered m) l e = ap covered (accepted-same e)
 
 -- Of a table that was read, a start, and room for so many entries and so many bytes of a tree:
 module _ (table : List ℕ) (b : AreBytes table) (t : Table) (e : readTable table ≡ accepted t) (start : Reading) (capacity size : ℕ) (few : capacity ≤ 4096) where

@@ -1,9 +1,10 @@
--- The way along the parents, where a list is held as its columns of actions and parents.
+-- The way along the parents, where a list is held as its columns of actions, parents and depths, and the listed seconds as a row.
 -- Definitions only.
-use Prim.Native.Nat.{ℕ, suc, _-_, _≤_, _<_}
+use Prim.Native.Nat.{ℕ, zero, suc, _+_, _-_, _≤_, _<_}
 use mathlib.Core.Path.{_≡_}
-use mathlib.Core.List.{List}
+use mathlib.Core.List.{List, [], _∷_}
 use lib.ListN.{length, getD}
+use Rattle.job.specs.Validation.{maxSeconds}
 use Rattle.planning.specs.Listing.{Listing, path}
 
 -- the list that the columns hold, as far as a way asks
@@ -19,9 +20,17 @@ pub record Linked (count n : ℕ) (actions parents : List ℕ) : Type 0 where
   pub earlier : (i : ℕ) → suc i < n → getD parents (suc i) 0 < suc i
 
 -- a list of n entries stands in the columns, and its last entry's depth is the length of its way
-pub record Stored (count n : ℕ) (conditions actions parents depths : List ℕ) : Type 0 where
+pub record Traced (count n : ℕ) (actions parents depths : List ℕ) : Type 0 where
   pub some : 1 ≤ n
-  pub conditions-held : n ≤ length conditions
   pub depths-held : n ≤ length depths
   pub links : Linked count n actions parents
-  pub last-depth : length (path (linked actions parents) (n - 1)) ≡ getD depths (n - 1) 0
+  pub last-depth : getD depths (n - 1) 0 ≡ length (path (linked actions parents) (n - 1))
+
+-- the seconds of a way, by a row of the jobs' seconds
+abbrev pub rowSeconds : List ℕ → List ℕ → ℕ
+rowSeconds row [] = zero
+rowSeconds row (a ∷ w) = getD row a 0 + rowSeconds row w
+
+-- no job is listed with more seconds than a job may be
+abbrev pub InTime : List ℕ → Type 0
+InTime row = (i : ℕ) → getD row i 0 ≤ maxSeconds
