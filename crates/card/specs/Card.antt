@@ -7,14 +7,13 @@ use mathlib.Core.List.{List}
 use lib.Dec.{eqb, ltb}
 use lib.IntN.{ℤ, pos, _-ℤ_}
 use Rattle.base.specs.Bools.{if_then_else_}
-use Rattle.masks.specs.Sets.{subset, difference}
-use Rattle.masks.specs.Effects.{applied}
 use Rattle.refusal.specs.declared.Refusal.{Refusal}
 use Rattle.refusal.specs.Checked.{Checked, accepted, refused, refusedBy, andThen}
 use Rattle.reading.specs.declared.Reading.{Reading}
 use Rattle.reading.specs.Reading.{sound}
+use Rattle.conditions.specs.OnReading.{applicable, finished}
 use Rattle.table.specs.declared.Job.{Job}
-use Rattle.table.specs.Table.{Table, maxSeconds}
+use Rattle.table.specs.Table.{Table, maxSeconds, actionOf}
 use Rattle.table.specs.Read.{readTable, namedJob}
 use Rattle.minutes.specs.Minutes.{minutesOf}
 use Rattle.card.specs.declared.Card.{Card}
@@ -37,24 +36,12 @@ withMasks r c = record { held = r .held; unread = r .unread; reports = c .report
 
 -- ---- a reported job
 
--- "It is applicable when all its needs are held."
-unfoldable pub applicable : Job → Reading → Bool
-applicable j r = subset (j .needs) (r .held)
-
--- "the effect is applied, added and deleted facts become read"
-unfoldable pub finished : Job → Reading → Reading
-finished j r =
-    record {
-      held = applied (j .adds) (j .deletes) (r .held);
-      unread = difference (difference (r .unread) (j .adds)) (j .deletes);
-    }
-
--- "the count rises by 1, and taken and planned grow by the reported and listed seconds"
+-- "the effect is applied, added and deleted facts become read, the count rises by 1, and taken and planned grow by the reported and listed seconds"
 unfoldable pub withReport : Job → ℕ → Card → Card
 withReport j taken c =
     record {
-      held = finished j (masksOf c) .held;
-      unread = finished j (masksOf c) .unread;
+      held = finished (actionOf j) (masksOf c) .held;
+      unread = finished (actionOf j) (masksOf c) .unread;
       reports = c .reports + 1;
       taken = c .taken + taken;
       planned = c .planned + j .seconds;
@@ -93,7 +80,7 @@ outsideRead table r c = andThen (tableFor table r) λ t. accepted (withMasks r c
 -- 17: "A need of the reported job is unread or absent." Then 18, of the card before the report.
 unfoldable pub judged : Job → ℕ → Card → Checked Card
 judged j taken c =
-    if applicable j (masksOf c) then (if exhausted c then refused 18 0 else accepted (withReport j taken c)) else refused 17 0
+    if applicable (actionOf j) (masksOf c) then (if exhausted c then refused 18 0 else accepted (withReport j taken c)) else refused 17 0
 
 -- "A report has a job and its taken seconds": the table's own stops, 8 with the card's own masks, 16 with the job's number, 17, 18
 unfoldable pub reported : List ℕ → JobReport → Card → Checked Card

@@ -14,13 +14,14 @@ use Rattle.refusal.specs.Checked.{Checked, accepted, refused, refusedBy}
 use Rattle.refusal.specs.CheckedLaws.{accepted-then, accepted-if, accepted-same}
 use Rattle.reading.specs.declared.Reading.{Reading}
 use Rattle.reading.specs.Reading.{sound}
+use Rattle.conditions.specs.OnReading.{applicable}
 use Rattle.table.specs.declared.Job.{Job}
-use Rattle.table.specs.Table.{Table, noJob}
+use Rattle.table.specs.Table.{Table, noJob, actionOf}
 use Rattle.table.specs.Read.{readTable, jobsOf, namedJob}
 use Rattle.card.specs.declared.Card.{Card}
 use Rattle.card.specs.declared.JobReport.{JobReport}
 use Rattle.card.specs.declared.Outcome.the-variants.{Done, Refused}
-use Rattle.card.specs.Card.{masksOf, newCard, withMasks, applicable, withReport, maxReports, maxTaken, maxListed, exhausted, tableFor, opened, outsideRead, judged, reported, Updated}
+use Rattle.card.specs.Card.{masksOf, newCard, withMasks, withReport, maxReports, maxTaken, maxListed, exhausted, tableFor, opened, outsideRead, judged, reported, Updated}
 
 -- ---- the two ways that a call ends
 
@@ -117,11 +118,11 @@ module _ (c : Card) where
 -- ---- a report
 
 module _ (j : Job) (taken : ℕ) (c : Card) where
-  pub judged-missing : applicable j (masksOf c) ≡ false → refused 17 0 ≡ judged j taken c
+  pub judged-missing : applicable (actionOf j) (masksOf c) ≡ false → refused 17 0 ≡ judged j taken c
   unfolding judged
   judged-missing e = rw e
 
-  module _ (e : applicable j (masksOf c) ≡ true) where
+  module _ (e : applicable (actionOf j) (masksOf c) ≡ true) where
     pub judged-exhausted : exhausted c ≡ true → refused 18 0 ≡ judged j taken c
     unfolding judged
     judged-exhausted x = rw (e, x)

@@ -1,130 +1,38 @@
 -- What reports make of a card: its masks stay sound and its sums within 18's bound, and on a fully read card a report is a finished job.
 -- Assumes nothing.
-use Prim.Native.Nat.{ℕ, zero, suc, _-_, _*_, _^_, _≤_, _<_, max}
+use Prim.Native.Nat.{ℕ, _-_, _*_, _^_, _≤_, _<_}
 use native.Mathlib.Omega.{arith}
 use mathlib.Core.Path.{_≡_, refl, sym, ap, _∙_}
-use mathlib.Core.Bool.{Bool, true, false, not, _||_, true≢false}
+use mathlib.Core.Bool.{Bool, true, false, true≢false}
 use mathlib.Core.List.{List}
 use borrow.Author.Tests.{ltb-true}
-use lib.Dec.{T, T-not, ltb}
+use lib.Dec.{T, ltb}
 use lib.ListN.{length, getD}
-use Rattle.base.specs.Bools.{if_then_else_, by-cases, holds, fails, is-true, is-false, and-intro, and-left, and-right}
-use Rattle.masks.specs.Sets.{bit, subset, intersects, union, difference, within}
-use Rattle.masks.specs.Bits.{bit-le, bit-empty, bit-union, bit-difference, same-bits, subset-bits, bits-subset, disjoint-bits, bits-disjoint}
-use Rattle.masks.specs.Laws.{subset-refl, subset-trans, subset-union-left, disjoint-subset, within-difference}
-use Rattle.masks.specs.Effects.{applied, applied-within}
+use Rattle.base.specs.Bools.{if_then_else_, holds, and-left, and-right}
+use Rattle.masks.specs.Sets.{intersects, within}
 use Rattle.refusal.specs.Checked.{Checked, accepted, refused, andThen}
 use Rattle.refusal.specs.CheckedLaws.{not-both, accepted-same, accepted-then, accepted-if, accepted-unless}
 use Rattle.commands.specs.NumberLaws.{AreBytes}
 use Rattle.reading.specs.declared.Reading.{Reading}
-use Rattle.reading.specs.Reading.{sound, Completes, state}
-use Rattle.reading.specs.ReadingLaws.{sound-held, sound-unread, sound-apart}
+use Rattle.reading.specs.Reading.{sound, state}
+use Rattle.conditions.specs.Condition.{needed, applied}
+use Rattle.conditions.specs.OnReading.{applicable, finished}
+use Rattle.conditions.specs.OnReadingLaws.{finished-state, finished-sound, unread-inapplicable}
 use Rattle.table.specs.declared.Job.{Job}
-use Rattle.table.specs.Table.{Table, noJob}
+use Rattle.table.specs.Table.{Table, noJob, actionOf}
 use Rattle.table.specs.Read.{readTable, namedJob}
 use Rattle.table.specs.Sound.{SoundJob}
 use Rattle.table.specs.RoundTrip.{read-sound}
 use Rattle.card.specs.declared.Card.{Card}
 use Rattle.card.specs.declared.JobReport.{JobReport}
-use Rattle.card.specs.Card.{masksOf, newCard, withMasks, applicable, finished, withReport, maxReports, maxTaken, maxListed, exhausted, tableFor, outsideRead, judged, reported, answer}
+use Rattle.card.specs.Card.{masksOf, newCard, withMasks, withReport, maxReports, maxTaken, maxListed, exhausted, tableFor, outsideRead, judged, reported, answer}
 use Rattle.card.specs.CardLaws.{for-told, for-jobs, judged-missing, judged-exhausted, report-job, Bounded, room, not-exhausted, planned-over}
 
--- ---- the effect of a report on both masks
+-- ---- a job of a sound table
 
-bit-applied : (a d h i : ℕ) → bit (applied a d h) i ≡ max (bit h i) (bit a i) - bit d i
-unfolding applied
-bit-applied a d h i = rw (bit-difference (union h a) d i, bit-union h a i)
-
-bit-now-read : (a d u i : ℕ) → bit (difference (difference u a) d) i ≡ bit u i - bit a i - bit d i
-bit-now-read a d u i = rw (bit-difference (difference u a) d i, bit-difference u a i)
-
-either : (s a : ℕ) → s ≤ 1 → a ≤ 1 → max s a ≤ 1
-either s a p q = omega arith
-
--- one fact: what may hold after the job is held or unread after it
-one-fact : (s h u a d : ℕ) → s ≤ 1 → a ≤ 1 → s ≤ max h u → max s a - d ≤ max (max h a - d) (u - a - d)
-one-fact s h u zero zero p q l = rw (untouched s, untouched h, unchanged u) l
-  where
-    untouched : (m : ℕ) → max m zero - zero ≡ m
-    untouched m = omega arith
-
-    unchanged : (m : ℕ) → m - zero - zero ≡ m
-    unchanged m = omega arith
-one-fact s h u (suc a) zero p q l = added (max s (suc a)) (max h (suc a)) (u - suc a - zero) (either s (suc a) p q) (some h a)
-  where
-    some : (h a : ℕ) → 1 ≤ max h (suc a)
-    some h a = omega arith
-
-    added : (m y z : ℕ) → m ≤ 1 → 1 ≤ y → m - zero ≤ max (y - zero) z
-    added m y z k i = omega arith
-one-fact s h u a (suc d) p q l = deleted (max s a) d (max (max h a - suc d) (u - a - suc d)) (either s a p q)
-  where
-    deleted : (m d z : ℕ) → m ≤ 1 → m - suc d ≤ z
-    deleted m d z k = omega arith
-
-module _ (j : Job) where
-  -- where all is read it is the effect of a finished job, and all stays read
-  pub finished-state : (s : ℕ) → finished j (state s) ≡ state (applied (j .adds) (j .deletes) s)
-  unfolding finished
-  finished-state s =
-      rw (same-bits (difference (difference 0 (j .adds)) (j .deletes)) 0 (λ i. omega (arith, bit-now-read (j .adds) (j .deletes) 0 i, bit-empty i)))
-
-  module _ (r : Reading) where
-    at-held : (i : ℕ) → bit (finished j r .held) i ≡ max (bit (r .held) i) (bit (j .adds) i) - bit (j .deletes) i
-    unfolding finished
-    at-held i = bit-applied (j .adds) (j .deletes) (r .held) i
-
-    at-unread : (i : ℕ) → bit (finished j r .unread) i ≡ bit (r .unread) i - bit (j .adds) i - bit (j .deletes) i
-    unfolding finished
-    at-unread i = bit-now-read (j .adds) (j .deletes) (r .unread) i
-
-    -- it does the same to each state that the reading may stand for
-    pub finished-completes : (s : ℕ) → Completes r s → Completes (finished j r) (applied (j .adds) (j .deletes) s)
-    finished-completes s c =
-        record {
-          keeps-held = bits-subset _ _ (λ i. omega (arith, subset-bits (r .held) s (c .keeps-held) i, at-held i, bit-applied (j .adds) (j .deletes) s i));
-          adds-unread =
-              bits-subset _ _
-              (λ i. may-hold i (one-fact _ _ _ _ _ (bit-le s i) (bit-le (j .adds) i) (rw bit-union at (subset-bits s _ (c .adds-unread) i))));
-        }
-      where
-        may-hold : (i : ℕ) → max (bit s i) (bit (j .adds) i) - bit (j .deletes) i
-            ≤ max (max (bit (r .held) i) (bit (j .adds) i) - bit (j .deletes) i) (bit (r .unread) i - bit (j .adds) i - bit (j .deletes) i)
-            → bit (applied (j .adds) (j .deletes) s) i ≤ bit (union (finished j r .held) (finished j r .unread)) i
-        may-hold i h = rw (bit-applied, bit-union, at-held i, at-unread i) h
-
-    -- and it leaves a sound reading sound: 8 does not arise from a report
-    pub finished-sound : (f : ℕ) → SoundJob f j → T (sound f r) → T (sound f (finished j r))
-    unfolding sound finished
-    finished-sound f ok t =
-        and-intro (within f (finished j r .held)) _ (applied-within f (j .adds) (j .deletes) (r .held) adds (sound-held f r t))
-        (and-intro (within f (finished j r .unread)) _ (within-difference f _ (j .deletes) (within-difference f (r .unread) (j .adds) (sound-unread f r t)))
-        (bits-disjoint (finished j r .held) (finished j r .unread)
-        (λ i. omega (arith, at-held i, at-unread i, disjoint-bits (r .held) (r .unread) (sound-apart f r t) i, bit-le (r .held) i, bit-le (j .adds) i))))
-      where
-        adds : T (within f (j .adds))
-        adds = and-left (within f (j .adds)) _ (and-right (within f (j .needs)) _ (holds _ (ok .in-range)))
-
-    -- 17 in document 01's words: the job is not applicable just where "a need of the reported job is unread or absent"
-    pub missing-need : (f : ℕ) → T (sound f r)
-        → not (applicable j r) ≡ (intersects (j .needs) (r .unread) || not (subset (j .needs) (union (r .held) (r .unread))))
-    unfolding applicable
-    missing-need f t = split (subset n (r .held)) refl (intersects n (r .unread)) refl
-      where
-        n : ℕ
-        n = j .needs
-
-        all : ℕ
-        all = union (r .held) (r .unread)
-
-        some-held : T (not (intersects n (r .unread))) → T (subset n all) → T (subset n (r .held))
-        some-held d h = bits-subset n (r .held) (λ i. omega (arith, disjoint-bits n (r .unread) d i, subset-bits n all h i, bit-union (r .held) (r .unread) i))
-
-        split : (a : Bool) → subset n (r .held) ≡ a → (b : Bool) → intersects n (r .unread) ≡ b → not a ≡ (b || not (subset n all))
-        split true p true q = absurd (rw q at (disjoint-subset n (r .unread) (r .held) (r .unread) (holds _ p) (subset-refl (r .unread)) (sound-apart f r t)))
-        split true p false q = rw (is-true (subset n all) (subset-trans n (r .held) all (holds _ p) (subset-union-left (r .held) (r .unread))))
-        split false p true q = refl
-        split false p false q = by-cases (subset n all) (λ h. absurd (rw p at (some-held (fails _ q) h))) (λ h. rw (is-false (subset n all) h))
+-- what it adds are facts of the table
+adds-within : {f : ℕ} {j : Job} → SoundJob f j → T (within f (actionOf j .adds))
+adds-within {f} {j} ok = and-left (within f (actionOf j .adds)) _ (and-right (within f (actionOf j .needs)) _ (holds _ (ok .in-range)))
 
 -- ---- the count and the sums
 
@@ -148,7 +56,7 @@ pub record Accepted (s : List ℕ) (x : JobReport) (c d : Card) : Type 0 where
   pub has-job : x .job < length (table .jobs)
   pub job : Job
   pub is-job : job ≡ getD (table .jobs) (x .job) noJob
-  pub needs-held : applicable job (masksOf c) ≡ true
+  pub needs-held : applicable (actionOf job) (masksOf c) ≡ true
   pub has-room : exhausted c ≡ false
   pub is-card : d ≡ withReport job (x .taken) c
 
@@ -160,7 +68,7 @@ report-told s x c d e =
     let b = accepted-then (namedJob t (x .job)) (λ j. judged j (x .taken) c) d (a .2) in
     let j = b .0 in
     let n = accepted-if (ltb (x .job) (length (t .jobs))) (accepted (getD (t .jobs) (x .job) noJob)) 16 0 j (b .1) in
-    let k = accepted-if (applicable j (masksOf c)) (if exhausted c then refused 18 0 else accepted (withReport j (x .taken) c)) 17 0 d (b .2) in
+    let k = accepted-if (applicable (actionOf j) (masksOf c)) (if exhausted c then refused 18 0 else accepted (withReport j (x .taken) c)) 17 0 d (b .2) in
     let m = accepted-unless (exhausted c) (accepted (withReport j (x .taken) c)) 18 0 d (k .1) in
     let u = for-told s (masksOf c) t (sym (a .1)) in
     record {
@@ -176,13 +84,13 @@ report-told s x c d e =
     }
 
 module _ (s : List ℕ) (x : JobReport) (c d : Card) (a : Accepted s x c d) where
-  masks-then : masksOf d ≡ finished (a .job) (masksOf c)
+  masks-then : masksOf d ≡ finished (actionOf (a .job)) (masksOf c)
   unfolding withReport
   masks-then = rw (a .is-card)
 
   -- On a fully read card a report is a finished job: its effect on the state, and nothing is unread after it.
-  pub report-finishes : c .unread ≡ 0 → masksOf d ≡ state (applied (a .job .adds) (a .job .deletes) (c .held))
-  report-finishes u = let e : masksOf c ≡ state (c .held) = rw u in masks-then ∙ ap (finished (a .job)) e ∙ finished-state (a .job) (c .held)
+  pub report-finishes : c .unread ≡ 0 → masksOf d ≡ state (applied (actionOf (a .job)) (c .held))
+  report-finishes u = let e : masksOf c ≡ state (c .held) = rw u in masks-then ∙ ap (finished (actionOf (a .job))) e ∙ finished-state (actionOf (a .job)) (c .held)
 
   module _ (b : AreBytes s) where
     ok : SoundJob (a .table .facts) (a .job)
@@ -190,7 +98,7 @@ module _ (s : List ℕ) (x : JobReport) (c d : Card) (a : Accepted s x c d) wher
 
     -- The card's masks stay sound: no report leads to 8.
     pub report-sound : T (sound (a .table .facts) (masksOf d))
-    report-sound = rw masks-then (finished-sound (a .job) (masksOf c) (a .table .facts) ok (a .masks-sound))
+    report-sound = rw masks-then (finished-sound (actionOf (a .job)) (masksOf c) (a .table .facts) (adds-within ok) (a .masks-sound))
 
     -- Its sums stay within 18's bound: 18 then arises only once 65,535 reports were made.
     pub report-bounded : x .taken < 2 ^ 16 → Bounded d
@@ -201,24 +109,11 @@ module _ (s : List ℕ) (x : JobReport) (c d : Card) (a : Accepted s x c d) wher
 
 module _ (s : List ℕ) (x : JobReport) (c : Card) (t : Table) (e : accepted t ≡ tableFor s (masksOf c)) where
   -- A report of a job with an unread need is 17.
-  pub report-unread : x .job < length (t .jobs) → T (intersects (getD (t .jobs) (x .job) noJob .needs) (c .unread)) → reported s x c ≡ refused 17 0
-  unfolding applicable
+  pub report-unread : x .job < length (t .jobs) → T (intersects (needed (actionOf (getD (t .jobs) (x .job) noJob))) (c .unread)) → reported s x c ≡ refused 17 0
   report-unread h n =
-      let q = rw (for-jobs s (masksOf c) t e) at (report-job s x c t e h) in
-      sym (judged-missing _ _ c (is-false _ (missing (applicable j (masksOf c)) refl)) ∙ q)
-    where
-      j : Job
-      j = getD (t .jobs) (x .job) noJob
-
-      missing : (b : Bool) → applicable j (masksOf c) ≡ b → T (not b)
-      missing true q = absurd (T-not (intersects (j .needs) (c .unread)) none n)
-        where
-          apart : T (not (intersects (c .held) (c .unread)))
-          apart = sound-apart (t .facts) (masksOf c) (holds (sound (t .facts) (masksOf c)) (for-told s (masksOf c) t e .1))
-
-          none : T (not (intersects (j .needs) (c .unread)))
-          none = disjoint-subset (j .needs) (c .unread) (c .held) (c .unread) (holds (subset (j .needs) (c .held)) q) (subset-refl (c .unread)) apart
-      missing false q = tt
+      let sound-masks = holds (sound (t .facts) (masksOf c)) (for-told s (masksOf c) t e .1) in
+      let missing = unread-inapplicable (actionOf (getD (t .jobs) (x .job) noJob)) (masksOf c) (t .facts) sound-masks n in
+      sym (judged-missing _ _ c missing ∙ rw (for-jobs s (masksOf c) t e) at (report-job s x c t e h))
 
   -- Where the sums are bounded and fewer than 65,535 reports were made, no report is 18.
   pub report-room : Bounded c → (c .reports ≡ maxReports → ⊥) → reported s x c ≡ refused 18 0 → ⊥
@@ -230,8 +125,8 @@ module _ (s : List ℕ) (x : JobReport) (c : Card) (t : Table) (e : accepted t �
       by-needs false d q = let z : _≡_ {A = ℕ} 17 18 = cc in omega arith
 
       by-job : (k : Bool) → andThen (if k then accepted (getD (t .jobs) (x .job) noJob) else refused 16 0)
-          (λ j. if applicable j (masksOf c) then accepted (withReport j (x .taken) c) else refused 17 0) ≡ refused 18 0 → ⊥
-      by-job true q = by-needs (applicable (getD (t .jobs) (x .job) noJob) (masksOf c)) _ q
+          (λ j. if applicable (actionOf j) (masksOf c) then accepted (withReport j (x .taken) c) else refused 17 0) ≡ refused 18 0 → ⊥
+      by-job true q = by-needs (applicable (actionOf (getD (t .jobs) (x .job) noJob)) (masksOf c)) _ q
       by-job false q = let z : _≡_ {A = ℕ} 16 18 = cc in omega arith
 
 -- ---- a card filled under an older table, before document 02's W3: its planned sum may be above the limit
@@ -243,7 +138,7 @@ module _ (c : Card) (over : maxListed * c .reports < c .planned) where
 
   -- Its next report, of a job whose needs are held, is 18.
   pub older-exhausted : (s : List ℕ) (x : JobReport) (t : Table) → accepted t ≡ tableFor s (masksOf c) → x .job < length (t .jobs)
-      → applicable (getD (t .jobs) (x .job) noJob) (masksOf c) ≡ true → reported s x c ≡ refused 18 0
+      → applicable (actionOf (getD (t .jobs) (x .job) noJob)) (masksOf c) ≡ true → reported s x c ≡ refused 18 0
   older-exhausted s x t e h n = sym (judged-exhausted _ _ c n (planned-over c over) ∙ rw (for-jobs s (masksOf c) t e) at (report-job s x c t e h))
 
 -- ---- an outside reading

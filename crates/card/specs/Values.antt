@@ -5,12 +5,13 @@ use mathlib.Core.Path.{_≡_, refl}
 use mathlib.Core.List.{[], _∷_, map}
 use lib.IntN.{pos, negsuc}
 use Rattle.masks.specs.Sets.{subset, union, difference}
-use Rattle.masks.specs.Effects.{applied}
 use Rattle.refusal.specs.Checked.{accepted, refused}
+use Rattle.conditions.specs.Condition.{applied}
+use Rattle.conditions.specs.OnReading.{applicable, finished}
 use Rattle.table.specs.declared.Job.{Job}
 use Rattle.minutes.specs.Minutes.{nearest, minutesOf}
 use Rattle.card.specs.declared.Card.{Card}
-use Rattle.card.specs.Card.{newCard, applicable, finished, withReport, exhausted, judged, latenessOf}
+use Rattle.card.specs.Card.{newCard, withReport, exhausted, judged, latenessOf}
 
 abbrev card : ℕ → ℕ → ℕ → ℕ → ℕ → Card
 card h u n t p = record { held = h; unread = u; reports = n; taken = t; planned = p }

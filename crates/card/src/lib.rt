@@ -11,7 +11,7 @@ ghost use mathlib.Core.Bool.{false};
 ghost use lib.IntN.{pos, _-ℤ_};
 ghost use Rattle.table.specs.Read.{answerOf, headed};
 ghost use Rattle.tree.specs.TickBytes.{Answers};
-ghost use Rattle.card.specs.Card.{masksOf, newCard, withMasks, applicable, finished, withReport, exhausted, tableFor, opened, outsideRead, judged, reported, latenessOf, Updated};
+ghost use Rattle.card.specs.Card.{masksOf, newCard, withMasks, withReport, exhausted, tableFor, opened, outsideRead, judged, reported, latenessOf, Updated};
 
 // The most reports that a card counts.
 pub const MAX_REPORTS: u16 = 65535;
@@ -148,21 +148,6 @@ pub fn outside_read(card: Card, table: &[u8], reading: Reading) -> Step
     }
 }
 
-// The reading after a job that was finished, with what the job added and deleted now read.
-pub fn finish(job: Job, reading: Reading) -> Reading
-    ensures { λ r. ⌜ r ≡ finished job reading ⌝ }
-{
-    let held = masks::without(masks::join(reading.held, job.adds), job.deletes);
-    let unread = masks::without(masks::without(reading.unread, job.adds), job.deletes);
-    Reading { held, unread }
-}
-
-pub fn is_applicable(job: Job, reading: Reading) -> bool
-    ensures { λ r. ⌜ r ≡ applicable job reading ⌝ }
-{
-    masks::is_subset(job.needs, reading.held)
-}
-
 // Can the card take no further report?
 fn is_exhausted(card: Card) -> bool
     ensures { λ r. ⌜ r ≡ exhausted card ⌝ }
@@ -182,15 +167,18 @@ fn with_report(card: Card, job: Job, taken: u16) -> Card
     requires { ⌜ exhausted card ≡ false ⌝ }
     ensures { λ r. ⌜ r ≡ withReport job taken card ⌝ }
 {
-    let masks = finish(job, masks_of(card));
+    let masks = conditions::finish(table::action_of(job), masks_of(card));
     let reported = taken as u32;
     let listed = job.seconds as u32;
+    let reports = card.reports + 1;
+    let taken = card.taken + reported;
+    let planned = card.planned + listed;
     Card {
         held: masks.held,
         unread: masks.unread,
-        reports: card.reports + 1,
-        taken: card.taken + reported,
-        planned: card.planned + listed,
+        reports,
+        taken,
+        planned,
     }
 }
 
@@ -198,7 +186,7 @@ fn with_report(card: Card, job: Job, taken: u16) -> Card
 fn judge(card: Card, job: Job, taken: u16) -> Step
     ensures { λ r. ⌜ Updated (judged job taken card) card (r .card) (r .outcome) ⌝ }
 {
-    if !is_applicable(job, masks_of(card)) {
+    if !conditions::is_applicable(table::action_of(job), masks_of(card)) {
         return refused(card, Reason::NeedNotHeld);
     }
     if is_exhausted(card) {
