@@ -108,9 +108,12 @@ abbrev pub jobsOf : Checked Table → List Job
 jobsOf (accepted t) = t .jobs
 jobsOf (refused n p) = []
 
--- the job with a number. 16: "A report names no job of the table."
-unfoldable pub namedJob : Table → ℕ → Checked Job
-namedJob t index = if ltb index (length (t .jobs)) then accepted (getD (t .jobs) index noJob) else refused 16 0
+-- the job with a number. 16 at a place: "A report names no job of the table."
+unfoldable pub namedJobAt : ℕ → Table → ℕ → Checked Job
+namedJobAt place t index = if ltb index (length (t .jobs)) then accepted (getD (t .jobs) index noJob) else refused 16 place
+
+abbrev pub namedJob : Table → ℕ → Checked Job
+namedJob t index = namedJobAt 0 t index
 
 -- ---- the answers of the code, in these terms
 

@@ -23,7 +23,7 @@ use Rattle.table.specs.declared.Header.{Header}
 use Rattle.table.specs.declared.Stage.{Stage}
 use Rattle.table.specs.declared.Stage.the-variants.{First, Middle, Last}
 use Rattle.table.specs.Table.{Table, maxJobs, maxSeconds, noJob}
-use Rattle.table.specs.Read.{allowed, Step, dueIn, due, jobAt, factsInRange, inRange, overlaps, judged, readEnd, readGoal, readJobs, readTable, jobsOf, namedJob, headerOf, headed}
+use Rattle.table.specs.Read.{allowed, Step, dueIn, due, jobAt, factsInRange, inRange, overlaps, judged, readEnd, readGoal, readJobs, readTable, jobsOf, namedJobAt, namedJob, headerOf, headed}
 
 -- ---- the command that is due
 
@@ -224,9 +224,9 @@ module _ (r : Checked Table) (i : ℕ) where
 
   module _ (t : Table) (e : accepted t ≡ r) where
     pub named-job : i < length (t .jobs) → accepted (getD (jobsOf r) i noJob) ≡ andThen r (λ t. namedJob t i)
-    unfolding namedJob
+    unfolding namedJobAt
     named-job h = rw (← e, lt-ltb i (length (t .jobs)) h)
 
     pub named-none : length (t .jobs) ≤ i → refused 16 0 ≡ andThen r (λ t. namedJob t i)
-    unfolding namedJob
+    unfolding namedJobAt
     named-none h = rw (← e, le-ltb i (length (t .jobs)) h)
