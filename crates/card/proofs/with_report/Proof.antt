@@ -2,8 +2,7 @@
 -- Assumes nothing.
 use borrow.Author.Needs.{needs}
 use native.Mathlib.Omega.{arith}
-use Rattle.card.specs.Card.{withReport}
-use Rattle.card.specs.CardLaws.{room}
+use Rattle.card.specs.CardLaws.{room, with-report-masks}
 use Rattle.card.proofs.with_report.Statement.{statement}
 use Rattle.card.proofs.with_report.Tie as tie
 
@@ -35,10 +34,10 @@ add-planned c =
     omega (arith, listed .struct-known .given, c .before .before .struct-known2 .given, c .struct-known4 .given)
 
 returns : tie.Need-returns
-unfolding withReport
 returns c =
-    let finished = c .before .before .before .before in
-    rw (finished .finish .ensures, finished .before .masks-of .ensures, finished .before .before .action-of .ensures)
+    let after = c .before .before .before .before in
+    let e = rw (after .before .masks-of .ensures, after .before .before .action-of .ensures) at (after .finish .ensures) in
+    with-report-masks _ _ _ e
 
 pub with-report-spec : {M : Type 1} → statement M
 with-report-spec =
