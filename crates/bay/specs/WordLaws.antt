@@ -17,10 +17,11 @@ use Rattle.planner.specs.declared.ShiftPlanned.{ShiftPlanned}
 use Rattle.planner.specs.Plan.{laid, shift, answerOf, shiftAnswerOf}
 use Rattle.planner.specs.Promise.{Plans, PlansShift}
 use Rattle.card.specs.declared.Card.{Card}
-use Rattle.card.specs.declared.Outcome.{Outcome}
-use Rattle.card.specs.declared.Outcome.the-variants.{Done, Refused}
-use Rattle.card.specs.declared.Step.{Step}
-use Rattle.card.specs.Card.{tableFor, withMasks, outsideRead, outcomeOf, answer, cardAfter, Updated}
+use Rattle.card.specs.declared.CardAnswer.{CardAnswer}
+use Rattle.card.specs.declared.CardAnswer.the-variants.{Done, Refused}
+use Rattle.card.specs.declared.CardStep.{CardStep}
+use Rattle.card.specs.Card.{withMasks, cardAnswerOf, answerDue, cardAfter, Updated}
+use Rattle.card_calls.specs.Calls.{tableFor, outsideRead}
 use Rattle.bay.specs.Words.{words, statusWords, summaryWords, sizeWords, PlanAnswered, ShiftAnswered, TickAnswered, Answered, cardOf, CardAnswered, keptOr, Stored}
 
 -- a function that stores the words that are due and returns the first of them
@@ -49,12 +50,12 @@ pub tick-answered : {table tree : List ℕ} {r : Reading} {ticked : Ticked} {len
 tick-answered p e = record { answers = answered-by (e ∙ ap (words 3 statusWords) (p .answer)); settled = λ a is. p .settled a (p .answer ∙ is) }
 
 -- a step that meets the card's contract, stored; `seen` is the card that the step was made from
-pub step-stored : {due : Checked Card} {step : Step} {seen before after : Card} {lent : List ℕ} {result : ℕ}
-    → Updated due seen (step .card) (step .outcome) → Stored step before after lent result → CardAnswered due before after lent result
+pub step-stored : {due : Checked Card} {step : CardStep} {seen before after : Card} {lent : List ℕ} {result : ℕ}
+    → Updated due seen (step .card) (step .answer) → Stored step before after lent result → CardAnswered due before after lent result
 step-stored {due} {step} {seen} {before} u s =
-    record { card = s .card ∙ kept due (step .outcome) (u .answers) (u .leaves); answers = rw (u .answers) at (s .answers) }
+    record { card = s .card ∙ kept due (step .answer) (u .answers) (u .leaves); answers = rw (u .answers) at (s .answers) }
   where
-    kept : (d : Checked Card) (o : Outcome) → outcomeOf o ≡ answer d → step .card ≡ cardAfter seen d → keptOr before (step .card) o ≡ cardAfter before d
+    kept : (d : Checked Card) (o : CardAnswer) → cardAnswerOf o ≡ answerDue d → step .card ≡ cardAfter seen d → keptOr before (step .card) o ≡ cardAfter before d
     kept (accepted c) Done a l = l
     kept (accepted c) (Refused x) a l = absurd (not-both a)
     kept (refused n p) Done a l = absurd (not-both (sym a))
@@ -84,4 +85,4 @@ module _ (table : List ℕ) (r : Reading) (held unread held′ unread′ : ℕ) 
       → CardAnswered (outsideRead table r (cardOf held unread reports taken planned)) (cardOf held unread reports taken planned)
       (cardOf held′ unread′ reports taken planned) lent result
   unfolding outsideRead
-  outside-any s = by-table (tableFor table r) s
+  outside-any s = by-table (tableFor table 0 r) s

@@ -19,10 +19,10 @@ use Rattle.planner.specs.declared.Size.{Size}
 use Rattle.planner.specs.Plan.{Laid, Lays}
 use Rattle.planner.specs.Promise.{Keeps, Serves}
 use Rattle.card.specs.declared.Card.{Card}
-use Rattle.card.specs.declared.Outcome.{Outcome}
-use Rattle.card.specs.declared.Outcome.the-variants.{Done, Refused}
-use Rattle.card.specs.declared.Step.{Step}
-use Rattle.card.specs.Card.{outcomeOf, answer, cardAfter}
+use Rattle.card.specs.declared.CardAnswer.{CardAnswer}
+use Rattle.card.specs.declared.CardAnswer.the-variants.{Done, Refused}
+use Rattle.card.specs.declared.CardStep.{CardStep}
+use Rattle.card.specs.Card.{cardAnswerOf, answerDue, cardAfter}
 
 -- 0, then what the call gives; of a refusal its number, its place, and 0 in every further word
 abbrev pub words : {A : Type 0} (size : ℕ) (values : A → List ℕ) → Checked A → List ℕ
@@ -91,13 +91,13 @@ cardOf held unread reports taken planned = record { held = held; unread = unread
 -- what a call promises of the card before and after it and of its answer; `due` is the definition's card or refusal
 pub record CardAnswered (due : Checked Card) (before after : Card) (lent : List ℕ) (result : ℕ) : Type 0 where
   pub card : after ≡ cardAfter before due
-  pub answers : Answered (words 2 doneWords (answer due)) lent result
+  pub answers : Answered (words 2 doneWords (answerDue due)) lent result
 
 -- the lent card after a step: only a step that was done changes it
-abbrev pub keptOr : Card → Card → Outcome → Card
+abbrev pub keptOr : Card → Card → CardAnswer → Card
 keptOr before next Done = next
 keptOr before next (Refused x) = before
 
-pub record Stored (step : Step) (before after : Card) (lent : List ℕ) (result : ℕ) : Type 0 where
-  pub card : after ≡ keptOr before (step .card) (step .outcome)
-  pub answers : Answered (words 2 doneWords (outcomeOf (step .outcome))) lent result
+pub record Stored (step : CardStep) (before after : Card) (lent : List ℕ) (result : ℕ) : Type 0 where
+  pub card : after ≡ keptOr before (step .card) (step .answer)
+  pub answers : Answered (words 2 doneWords (cardAnswerOf (step .answer))) lent result

@@ -1,9 +1,9 @@
 // The C interface of the planner: the functions of include/bay.h, each over the proved function of the same meaning. Every
 // function takes every input.
 use card::Card;
-use card::JobReport;
-use card::Outcome;
-use card::Step;
+use card::CardAnswer;
+use card::CardStep;
+use card_calls::JobReport;
 use planner::Planned;
 use planner::ShiftPlanned;
 use reading::Reading;
@@ -26,7 +26,8 @@ ghost use Rattle.expander.specs.Expands.{columns, room};
 ghost use Rattle.planner.specs.Plan.{laid, shift, shiftAnswerOf};
 ghost use Rattle.planner.specs.Plan.{answerOf as planAnswerOf};
 ghost use Rattle.tree.specs.TickBytes.{answerOf as tickAnswerOf};
-ghost use Rattle.card.specs.Card.{opened, outsideRead, reported, latenessOf, outcomeOf};
+ghost use Rattle.card.specs.Card.{latenessOf, cardAnswerOf};
+ghost use Rattle.card_calls.specs.Calls.{opened, outsideRead, reported};
 ghost use Rattle.bay.specs.Words.{words, headerWords, jobWords, statusWords, doneWords, writingWords, summaryWords, sizeWords, Answered, PlanAnswered, ShiftAnswered, TickAnswered, cardOf, CardAnswered, Stored};
 
 // What the words of include/bay.h are called there.
@@ -235,18 +236,18 @@ pub extern "C" fn bay_tick(
     ticked[0]
 }
 
-fn done_words(outcome: Outcome) -> [u64; 2]
-    ensures { λ r. ⌜ r ≡ words 2 doneWords (outcomeOf outcome) ⌝ }
+fn done_words(outcome: CardAnswer) -> [u64; 2]
+    ensures { λ r. ⌜ r ≡ words 2 doneWords (cardAnswerOf outcome) ⌝ }
 {
     match outcome {
-        Outcome::Done => [0, 0],
-        Outcome::Refused(x) => [number_of(x), x.place as u64],
+        CardAnswer::Done => [0, 0],
+        CardAnswer::Refused(x) => [number_of(x), x.place as u64],
     }
 }
 
 // The card of a step that was done, into its lent parts, and the step's answer. A refused step leaves the parts untouched.
 fn store(
-    step: Step,
+    step: CardStep,
     held: &mut u64,
     unread: &mut u64,
     reports: &mut u16,
@@ -259,13 +260,13 @@ fn store(
         (cardOf (now (held .exit)) (now (unread .exit)) (now (reports .exit)) (now (taken .exit)) (now (planned .exit)))
         (now (answer .exit)) r ⌝ }
 {
-    let outcome = step.outcome;
+    let outcome = step.answer;
     let words = done_words(outcome);
     *answer = words;
     let first = words[0];
     match outcome {
-        Outcome::Refused(_) => first,
-        Outcome::Done => {
+        CardAnswer::Refused(_) => first,
+        CardAnswer::Done => {
             let next = step.card;
             *held = next.held;
             *unread = next.unread;
@@ -302,7 +303,7 @@ pub extern "C" fn bay_open(
         taken: 0,
         planned: 0,
     };
-    let opened = card::opened(blank, table, Reading { held, unread });
+    let opened = card_calls::opened(blank, table, Reading { held, unread });
     store(
         opened,
         card_held,
@@ -340,7 +341,7 @@ pub extern "C" fn bay_read_outside(
         taken,
         planned,
     };
-    let read = card::outside_read(before, table, Reading { held, unread });
+    let read = card_calls::outside_read(before, table, Reading { held, unread });
     store(
         read,
         card_held,
@@ -378,11 +379,11 @@ pub extern "C" fn bay_report(
         taken: *card_taken,
         planned: *card_planned,
     };
-    let reported = card::reported(
+    let reported = card_calls::reported(
         before,
         table,
         JobReport {
-            job,
+            job: job as usize,
             taken: seconds,
         },
     );

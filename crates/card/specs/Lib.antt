@@ -1,4 +1,3 @@
 pub mod Card
 pub mod CardLaws
-pub mod Reports
 pub mod Values

@@ -5,12 +5,13 @@ use mathlib.Core.Path.{_≡_, refl}
 use mathlib.Core.List.{[], _∷_, map}
 use lib.IntN.{pos, negsuc}
 use Rattle.masks.specs.Sets.{subset, union, difference}
-use Rattle.masks.specs.Effects.{applied}
 use Rattle.refusal.specs.Checked.{accepted, refused}
-use Rattle.table.specs.declared.Job.{Job}
+use Rattle.conditions.specs.Condition.{applied}
+use Rattle.conditions.specs.OnReading.{applicable, finished}
+use Rattle.job.specs.declared.Job.{Job}
 use Rattle.minutes.specs.Minutes.{nearest, minutesOf}
 use Rattle.card.specs.declared.Card.{Card}
-use Rattle.card.specs.Card.{newCard, applicable, finished, withReport, exhausted, judged, latenessOf}
+use Rattle.card.specs.Card.{newCard, withReport, exhausted, booked, latenessOf}
 
 abbrev card : ℕ → ℕ → ℕ → ℕ → ℕ → Card
 card h u n t p = record { held = h; unread = u; reports = n; taken = t; planned = p }
@@ -26,24 +27,24 @@ abbrev seal : Job
 seal = record { needs = 0x0c; adds = 0x10; deletes = 0x00; seconds = 150 }
 
 -- a new card with the trailer on and fact 3 unread; measured in 630 seconds: half a minute late, which is no minute; uncoupled in 200: on time
-pub two-reports : judged measure 630 (newCard (record { held = 0x02; unread = 0x08 })) ≡ accepted (card 0x0a 0 1 630 600)
-unfolding judged applicable exhausted withReport finished applied subset union difference
+pub two-reports : booked measure 630 (newCard (record { held = 0x02; unread = 0x08 })) ≡ accepted (card 0x0a 0 1 630 600)
+unfolding booked applicable exhausted withReport finished applied subset union difference
 two-reports = refl
 
-pub then-uncoupled : judged uncouple 200 (card 0x0a 0 1 630 600) ≡ accepted (card 0x09 0 2 830 840)
-unfolding judged applicable exhausted withReport finished applied subset union difference
+pub then-uncoupled : booked uncouple 200 (card 0x0a 0 1 630 600) ≡ accepted (card 0x09 0 2 830 840)
+unfolding booked applicable exhausted withReport finished applied subset union difference
 then-uncoupled = refl
 
 -- 17 comes before 18; 18 by the count, and by each sum one past its bound: a planned sum above it stems from a table of longer jobs, read before
 -- document 02's W3
-pub stops : map (judged measure 1) (card 0x00 0x02 65535 0 0 ∷ card 0x02 0 65535 0 0 ∷ card 0x02 0 1 65536 0 ∷ card 0x02 0 1 0 5401 ∷ card 0x02 0 0 1 0 ∷ [])
+pub stops : map (booked measure 1) (card 0x00 0x02 65535 0 0 ∷ card 0x02 0 65535 0 0 ∷ card 0x02 0 1 65536 0 ∷ card 0x02 0 1 0 5401 ∷ card 0x02 0 0 1 0 ∷ [])
     ≡ refused 17 0 ∷ refused 18 0 ∷ refused 18 0 ∷ refused 18 0 ∷ refused 18 0 ∷ []
-unfolding judged applicable exhausted withReport finished applied subset union difference
+unfolding booked applicable exhausted withReport finished applied subset union difference
 stops = refl
 
-pub at-the-bounds : map (judged seal 65535) (card 0x0c 0 1 65535 5400 ∷ card 0x0c 0 65534 4294770690 353883600 ∷ [])
+pub at-the-bounds : map (booked seal 65535) (card 0x0c 0 1 65535 5400 ∷ card 0x0c 0 65534 4294770690 353883600 ∷ [])
     ≡ accepted (card 0x1c 0 2 131070 5550) ∷ accepted (card 0x1c 0 65535 4294836225 353883750) ∷ []
-unfolding judged applicable exhausted withReport finished applied subset union difference
+unfolding booked applicable exhausted withReport finished applied subset union difference
 at-the-bounds = refl
 
 -- half a minute late and early, which is no minute, and a second more; a minute and a half and two and a half, which are two; the ends

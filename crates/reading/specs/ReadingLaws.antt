@@ -3,14 +3,16 @@
 use Prim.Native.Nat.{ℕ}
 use native.Mathlib.Omega.{arith}
 use mathlib.Core.Path.{_≡_}
-use mathlib.Core.Bool.{not}
+use mathlib.Core.Bool.{true, false, not}
 use lib.Dec.{T}
 use Rattle.base.specs.Bools.{and-intro, and-left, and-right}
+use Rattle.refusal.specs.Checked.{accepted, refused}
+use Rattle.refusal.specs.CheckedLaws.{accepted-if}
 use Rattle.masks.specs.Sets.{intersects, union, within}
 use Rattle.masks.specs.Bits.{bit-le, bit-union, bit-empty, subset-bits, bits-subset, bits-disjoint}
 use Rattle.masks.specs.Laws.{subset-refl, subset-antisym, subset-union-left, within-subset, within-union, within-empty}
 use Rattle.reading.specs.declared.Reading.{Reading}
-use Rattle.reading.specs.Reading.{sound, Completes, state}
+use Rattle.reading.specs.Reading.{sound, checkedAt, Completes, state}
 
 module _ (f : ℕ) (r : Reading) where
   pub sound-held : T (sound f r) → T (within f (r .held))
@@ -24,6 +26,20 @@ module _ (f : ℕ) (r : Reading) where
   pub sound-apart : T (sound f r) → T (not (intersects (r .held) (r .unread)))
   unfolding sound
   sound-apart t = and-right (within f (r .unread)) _ (and-right (within f (r .held)) _ t)
+
+  -- the check of a reading tells whether it is sound, and gives it back as it is
+  module _ (place : ℕ) where
+    pub checked-sound : sound f r ≡ true → accepted r ≡ checkedAt f place r
+    unfolding checkedAt
+    checked-sound e = rw e
+
+    pub checked-bad : sound f r ≡ false → refused 8 place ≡ checkedAt f place r
+    unfolding checkedAt
+    checked-bad e = rw e
+
+    pub checked-told : (s : Reading) → checkedAt f place r ≡ accepted s → sound f r ≡ true
+    unfolding checkedAt
+    checked-told s e = accepted-if (sound f r) (accepted r) 8 place s e .0
 
   -- a completed reading is a state
   pub completes-within : T (sound f r) → (s : ℕ) → Completes r s → T (within f s)

@@ -2,10 +2,12 @@
 -- Assumes nothing.
 use borrow.Author.Needs.{needs}
 use native.Mathlib.Omega.{arith}
-use Rattle.card.specs.Card.{withReport}
-use Rattle.card.specs.CardLaws.{room}
+use Rattle.card.specs.CardLaws.{room, with-report-masks}
 use Rattle.card.proofs.with_report.Statement.{statement}
 use Rattle.card.proofs.with_report.Tie as tie
+
+action-of-requires : tie.Need-action-of-requires
+action-of-requires c κs = search needs
 
 masks-of-requires : tie.Need-masks-of-requires
 masks-of-requires c κs = search needs
@@ -16,20 +18,28 @@ finish-requires c κs = search needs
 cast-listed : tie.Need-cast-listed
 cast-listed c = search needs
 
-add-t8 : tie.Need-add-t8
-add-t8 c = let r = room _ (c .before .before .before .before .pre) in omega (arith, c .struct-known2 .given)
+add-reports : tie.Need-add-reports
+add-reports c = let start = c .before .before .before .before .before in let r = room _ (start .pre) in omega (arith, c .struct-known2 .given)
 
-add-t9 : tie.Need-add-t9
-add-t9 c = let r = room _ (c .before .before .before .before .before .pre) in omega (arith, c .before .struct-known2 .given, c .struct-known3 .given)
+add-taken : tie.Need-add-taken
+add-taken c =
+    let start = c .before .before .before .before .before .before in
+    let r = room _ (start .pre) in
+    omega (arith, c .before .struct-known2 .given, c .struct-known3 .given)
 
-add-t10 : tie.Need-add-t10
-add-t10 c =
-    let r = room _ (c .before .before .before .before .before .before .pre) in
-    omega (arith, c .before .before .before .struct-known .given, c .before .before .struct-known2 .given, c .struct-known4 .given)
+add-planned : tie.Need-add-planned
+add-planned c =
+    let listed = c .before .before .before in
+    let r = room _ (listed .before .before .before .before .pre) in
+    omega (arith, listed .struct-known .given, c .before .before .struct-known2 .given, c .struct-known4 .given)
 
 returns : tie.Need-returns
-unfolding withReport
-returns c = rw (c .before .before .before .before .finish .ensures, c .before .before .before .before .before .masks-of .ensures)
+returns c =
+    let after = c .before .before .before .before in
+    let e = rw (after .before .masks-of .ensures, after .before .before .action-of .ensures) at (after .finish .ensures) in
+    with-report-masks _ _ _ e
 
 pub with-report-spec : {M : Type 1} → statement M
-with-report-spec = tie.close (tie.spec masks-of-requires finish-requires cast-listed add-t8 add-t9 add-t10 returns)
+with-report-spec =
+    tie.close
+    (tie.spec action-of-requires masks-of-requires finish-requires cast-listed add-reports add-taken add-planned returns)
