@@ -8,11 +8,11 @@ use mathlib.Core.List.{List}
 use borrow.Author.Tests.{ltb-true}
 use lib.Dec.{T, ltb}
 use lib.ListN.{length, getD}
-use Rattle.base.specs.Bools.{if_then_else_, holds, and-left, and-right}
-use Rattle.masks.specs.Sets.{intersects, within}
+use Rattle.base.specs.Bools.{if_then_else_, holds}
+use Rattle.masks.specs.Sets.{intersects}
 use Rattle.refusal.specs.Checked.{Checked, accepted, refused, andThen}
 use Rattle.refusal.specs.CheckedLaws.{not-both, accepted-same, accepted-then, accepted-if, accepted-unless}
-use Rattle.commands.specs.NumberLaws.{AreBytes}
+use Rattle.numbers.specs.Numbers.{AreBytes}
 use Rattle.reading.specs.declared.Reading.{Reading}
 use Rattle.reading.specs.Reading.{sound, state}
 use Rattle.conditions.specs.Condition.{needed, applied}
@@ -23,6 +23,7 @@ use Rattle.job.specs.Job.{noJob, actionOf}
 use Rattle.table.specs.Table.{Table}
 use Rattle.table.specs.Read.{readTable, namedJob}
 use Rattle.job.specs.Validation.{SoundJob}
+use Rattle.job.specs.ValidationLaws.{action-within}
 use Rattle.table.specs.RoundTripLaws.{read-sound}
 use Rattle.card.specs.declared.Card.{Card}
 use Rattle.card.specs.Card.{masksOf, withMasks, withReport, maxReports, maxListed, exhausted, Bounded, booked, answerDue}
@@ -30,12 +31,6 @@ use Rattle.card.specs.CardLaws.{booked-missing, booked-exhausted, room, not-exh
 use Rattle.card_calls.specs.declared.JobReport.{JobReport}
 use Rattle.card_calls.specs.Calls.{tableFor, outsideRead, reported}
 use Rattle.card_calls.specs.CallLaws.{for-told, for-jobs, report-job}
-
--- ---- a job of a sound table
-
--- what it adds are facts of the table
-adds-within : {f : ℕ} {j : Job} → SoundJob f j → T (within f (actionOf j .adds))
-adds-within {f} {j} ok = and-left (within f (actionOf j .adds)) _ (and-right (within f (actionOf j .needs)) _ (holds _ (ok .in-range)))
 
 -- ---- a report that was accepted
 
@@ -88,7 +83,7 @@ module _ (s : List ℕ) (x : JobReport) (c d : Card) (a : Accepted s x c d) wher
 
     -- The card's masks stay sound: no report leads to 8.
     pub report-sound : T (sound (a .table .facts) (masksOf d))
-    report-sound = rw masks-then (finished-sound (actionOf (a .job)) (masksOf c) (a .table .facts) (adds-within ok) (a .masks-sound))
+    report-sound = rw masks-then (finished-sound (actionOf (a .job)) (masksOf c) (a .table .facts) (action-within ok) (a .masks-sound))
 
     -- Its sums stay within 18's bound: 18 then arises only once 65,535 reports were made.
     pub report-bounded : x .taken < 2 ^ 16 → Bounded d

@@ -1,19 +1,19 @@
 -- Where each job of a table stands, and what is read there.
 -- Assumes nothing.
-use Prim.Native.Nat.{ℕ, suc, _+_, _≤_, _<_}
+use Prim.Native.Nat.{ℕ, suc, _+_, _*_, _≤_, _<_}
 use native.Mathlib.Numerals.{add-one}
 use native.Mathlib.Omega.{arith}
 use mathlib.Core.Path.{_≡_, refl, sym, ap, _∙_}
 use mathlib.Core.List.{List, [], _∷_, _++_, append-assoc, append-nil}
-use lib.ListN.{length, getD, take, drop, length-append, length-drop, take-append-drop}
-use lib.Seq.{drop-drop, drop-at, drop-cons, take-suc}
+use lib.ListN.{length, getD, take, drop, length-append, length-take, length-drop, take-append-drop}
+use lib.Seq.{drop-drop, drop-at, drop-cons, take-suc, take-length}
 use Rattle.refusal.specs.Checked.{Checked, accepted, refused}
-use Rattle.commands.specs.Commands.{FACTS-SIZE}
+use Rattle.commands.specs.Commands.{FACTS-SIZE, JOB-SIZE}
 use Rattle.numbers.specs.Numbers.{AreBytes}
 use Rattle.job.specs.declared.Job.{Job}
 use Rattle.job.specs.Job.{noJob, jobBytes, jobSize, jobAt, jobFrom}
 use Rattle.job.specs.JobLaws.{job-size, job-length, read-job}
-use Rattle.table.specs.Table.{Table, jobsBytes, goalBytes, tableBytes, offsetOf}
+use Rattle.table.specs.Table.{Table, jobsBytes, goalBytes, tableBytes, offsetOf, goalOffset}
 use Rattle.table.specs.Read.{readTable, jobsOf}
 use Rattle.table.specs.RoundTripLaws.{written-back, read-storable}
 
@@ -23,6 +23,9 @@ pub jobs-append : (js ks : List Job) → jobsBytes (js ++ ks) ≡ jobsBytes js +
 unfolding jobsBytes
 jobs-append [] ks = refl
 jobs-append (j ∷ js) ks = ap (λ (r : List ℕ). jobBytes j ++ r) (jobs-append js ks) ∙ sym (append-assoc (jobBytes j) (jobsBytes js) (jobsBytes ks))
+
+parted : (js : List Job) (i : ℕ) → jobsBytes js ≡ jobsBytes (take i js) ++ jobsBytes (drop i js)
+parted js i = ap jobsBytes (sym (take-append-drop i js)) ∙ jobs-append (take i js) (drop i js)
 
 pub jobs-snoc : (js : List Job) (j : Job) → jobsBytes (js ++ (j ∷ [])) ≡ jobsBytes js ++ jobBytes j
 unfolding jobsBytes
@@ -39,12 +42,30 @@ pub next-offset : (js : List Job) (i : ℕ) → i < length js → offsetOf js (s
 unfolding offsetOf
 next-offset js i h = rw (take-suc js i noJob h) (omega (arith, snoc-length (take i js) (getD js i noJob)))
 
+pub last-offset : (t : Table) → goalOffset t ≡ offsetOf (t .jobs) (length (t .jobs))
+unfolding goalOffset offsetOf
+last-offset t = rw take-length
+
+-- a table's jobs are few, so its offsets are small numbers
+jobs-small : (js : List Job) → length (jobsBytes js) ≤ JOB-SIZE * length js
+unfolding jobsBytes
+jobs-small [] = omega arith
+jobs-small (j ∷ js) = omega (arith, length-append (jobBytes j) (jobsBytes js), job-length j, job-size j, jobs-small js)
+
+pub offset-small : (js : List Job) (i : ℕ) → offsetOf js i ≤ FACTS-SIZE + JOB-SIZE * i
+unfolding offsetOf
+offset-small js i = omega (arith, jobs-small (take i js), length-take i js)
+
+-- no job stands past GOAL
+pub offset-within : (js : List Job) (i : ℕ) → offsetOf js i ≤ FACTS-SIZE + length (jobsBytes js)
+unfolding offsetOf
+offset-within js i = omega (arith, length-append (jobsBytes (take i js)) (jobsBytes (drop i js)), ap length (parted js i))
+
 -- ---- each job of the table, by its number
 
 drop-jobs : (js : List Job) (rest : List ℕ) (i : ℕ) → drop (length (jobsBytes (take i js))) (jobsBytes js ++ rest) ≡ jobsBytes (drop i js) ++ rest
 drop-jobs js rest i =
-    let parts : jobsBytes js ≡ jobsBytes (take i js) ++ jobsBytes (drop i js) = ap jobsBytes (sym (take-append-drop i js)) ∙ jobs-append (take i js) (drop i js) in
-    ap (λ (r : List ℕ). drop (length (jobsBytes (take i js))) (r ++ rest)) parts
+    ap (λ (r : List ℕ). drop (length (jobsBytes (take i js))) (r ++ rest)) (parted js i)
     ∙ rw append-assoc (drop-at (jobsBytes (take i js)) (jobsBytes (drop i js) ++ rest) (length (jobsBytes (take i js))) refl)
 
 module _ (s : List ℕ) (b : AreBytes s) (t : Table) (q : readTable s ≡ accepted t) (i : ℕ) (h : i < length (t .jobs)) where

@@ -32,3 +32,7 @@ tableBytes t = FACTS ∷ t .facts ∷ jobsBytes (t .jobs) ++ goalBytes (t .goal)
 -- where job i stands: after FACTS and the jobs before it
 unfoldable pub offsetOf : List Job → ℕ → ℕ
 offsetOf js i = FACTS-SIZE + length (jobsBytes (take i js))
+
+-- where GOAL stands: after FACTS and all jobs
+unfoldable pub goalOffset : Table → ℕ
+goalOffset t = FACTS-SIZE + length (jobsBytes (t .jobs))

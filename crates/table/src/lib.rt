@@ -16,7 +16,7 @@ ghost use Rattle.table.specs.Table.{Table, maxJobs};
 ghost use Rattle.table.specs.Read.{allowed, due, dueOf, factsInRange, readEnd, readGoal, readJobs, readTable, jobsOf, namedJob, headerOf, headed, tableReadOf, jobReadOf};
 
 // The most facts and jobs that a table may have.
-pub const MAX_FACTS: u8 = 64;
+pub const MAX_FACTS: usize = 64;
 
 pub const MAX_JOBS: usize = 128;
 
@@ -156,7 +156,7 @@ fn read_jobs(s: &[u8], facts: u8, first: usize) -> TableRead
     }
 }
 
-pub fn facts_in_range(facts: u8) -> bool
+pub fn facts_in_range(facts: usize) -> bool
     ensures { λ r. ⌜ r ≡ factsInRange facts ⌝ }
 {
     if facts < 1 {
@@ -173,7 +173,7 @@ pub fn read_table(s: &[u8]) -> TableRead
         Due::Refused(x) => TableRead::Refused(x),
         Due::Command(_, next) => {
             let facts = s[commands::OPERANDS_AT];
-            if facts_in_range(facts) {
+            if facts_in_range(facts as usize) {
                 read_jobs(s, facts, next)
             } else {
                 refused(Reason::FactCountOutOfRange, 0)

@@ -1,7 +1,8 @@
 -- The table writer: a table from its columns to bytes in a lent slice. Document 01 names it among "both writers"; what it takes and refuses is our
--- choice: a table that is not sound gets the refusal that reading its bytes would give, and nothing is written then.
--- Assumes nothing.
-use Prim.Native.Nat.{ℕ}
+-- choice: a table that is not sound gets the refusal that reading its bytes would give, and nothing is written then. A number of facts that no byte
+-- can hold is refused as any other that is not 1 to 64.
+-- Definitions only.
+use Prim.Native.Nat.{ℕ, _<_}
 use mathlib.Core.Path.{_≡_}
 use mathlib.Core.Bool.{Bool, _&&_}
 use mathlib.Core.List.{List, _++_}
@@ -10,12 +11,13 @@ use lib.ListN.{length, getD, drop}
 use Rattle.base.specs.Bools.{if_then_else_}
 use Rattle.base.specs.Lists.{prefix}
 use Rattle.refusal.specs.Numbers.{numberOf}
-use Rattle.refusal.specs.Checked.{Checked, accepted, refused, refusedBy}
-use Rattle.table.specs.declared.Job.{Job}
-use Rattle.table.specs.declared.Judged.{Judged}
-use Rattle.table_writer.specs.declared.TableWritten.{TableWritten}
-use Rattle.table.specs.Table.{Table, tableBytes}
+use Rattle.refusal.specs.Checked.{Checked, accepted, refused, refusedBy, andThen}
+use Rattle.job.specs.declared.Job.{Job}
+use Rattle.table.specs.Table.{Table, tableBytes, goalOffset}
 use Rattle.table.specs.Read.{readTable}
+use Rattle.table.specs.Sound.{validatedTable}
+use Rattle.table_writer.specs.declared.TableValidated.{TableValidated}
+use Rattle.table_writer.specs.declared.TableWritten.{TableWritten}
 
 -- the columns of the table's jobs
 module _ (needs adds deletes seconds : List ℕ) where
@@ -41,15 +43,15 @@ pub data Writing : Type 0 where
   short : ℕ → Writing
   -- the columns differ in length
   uneven : Writing
-  -- reading its bytes would refuse it with this number and place
+  -- it is refused with this number and place
   unsound : (number place : ℕ) → Writing
 
-abbrev pub judgedWriting : Checked Table → ℕ → ℕ → Writing
-judgedWriting (refused n p) size room = unsound n p
-judgedWriting (accepted t) size room = if leb size room then written size else short size
+abbrev pub validatedWriting : Checked Table → ℕ → ℕ → Writing
+validatedWriting (refused n p) size room = unsound n p
+validatedWriting (accepted t) size room = if leb size room then written size else short size
 
 unfoldable pub writing : Bool → Table → ℕ → Writing
-writing even t room = if even then judgedWriting (readTable (tableBytes t)) (length (tableBytes t)) room else uneven
+writing even t room = if even then validatedWriting (validatedTable t) (length (tableBytes t)) room else uneven
 
 -- the lent slice afterwards: only a table that was written changes it, and nothing past its bytes
 abbrev pub lentAfter : Writing → List ℕ → List ℕ → List ℕ
@@ -58,18 +60,24 @@ lentAfter (short n) bytes before = before
 lentAfter uneven bytes before = before
 lentAfter (unsound n p) bytes before = before
 
--- the answer of the code, in these terms
-abbrev pub writingOf : TableWritten → Writing
-writingOf (TableWritten.Written n) = written n
-writingOf (TableWritten.TooShort n) = short n
-writingOf TableWritten.Uneven = uneven
-writingOf (TableWritten.Refused x) = unsound (numberOf (x .reason)) (x .place)
+-- ---- the answers of the code, in these terms
+
+abbrev pub tableWrittenOf : TableWritten → Writing
+tableWrittenOf (TableWritten.Written n) = written n
+tableWrittenOf (TableWritten.TooShort n) = short n
+tableWrittenOf TableWritten.Uneven = uneven
+tableWrittenOf (TableWritten.Refused x) = unsound (numberOf (x .reason)) (x .place)
 
 pub record Wrote (even : Bool) (t : Table) (before after : List ℕ) (r : TableWritten) : Type 0 where
-  pub answer : writingOf r ≡ writing even t (length before)
+  pub answer : tableWrittenOf r ≡ writing even t (length before)
   pub lent : after ≡ lentAfter (writing even t (length before)) (tableBytes t) before
+  -- the checks are those of reading, wherever there are bytes to read
+  pub as-read : t .facts < 256 → validatedTable t ≡ readTable (tableBytes t)
 
--- a judgement of a whole table
-abbrev pub judgedTableOf : Table → Judged → Checked Table
-judgedTableOf t Judged.Sound = accepted t
-judgedTableOf t (Judged.Refused x) = refusedBy x
+-- where GOAL stands in a table that passed the checks
+abbrev pub placed : Checked Table → Checked ℕ
+placed r = andThen r λ t. accepted (goalOffset t)
+
+abbrev pub tableValidatedOf : TableValidated → Checked ℕ
+tableValidatedOf (TableValidated.Sound at) = accepted at
+tableValidatedOf (TableValidated.Refused x) = refusedBy x

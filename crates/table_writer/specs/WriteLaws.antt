@@ -6,26 +6,30 @@ use native.Mathlib.Decide.{decLt}
 use native.Mathlib.Omega.{arith}
 use mathlib.Core.Path.{_≡_, refl, sym, ap, _∙_}
 use mathlib.Core.Bool.{Bool, true, false, _&&_}
-use mathlib.Core.List.{List, [], _∷_, _++_, append-assoc, append-nil}
-use borrow.Author.Tests.{eqb-true, le-leb, lt-leb}
-use lib.Dec.{T, eqb}
-use lib.ListN.{length, getD, set, drop, length-append, drop-of-length-le, List·getD-eq-default}
-use lib.Seq.{sets, sets-eq, drop-cons}
+use mathlib.Core.List.{List, [], _∷_, _++_, append-assoc}
+use borrow.Author.Tests.{eqb-true, le-leb, lt-leb, leb-true}
+use lib.Dec.{T, eqb, leb}
+use lib.ListN.{length, getD, set, take, drop, length-append, drop-of-length-le, List·getD-eq-default}
+use lib.Seq.{sets, sets-eq, drop-cons, take-suc, take-all}
 use Rattle.base.specs.Bools.{holds, is-true, and-left, and-right}
 use Rattle.base.specs.Lists.{length-prefix, getD-prefix}
 use Rattle.masks.specs.Sets.{within}
 use Rattle.refusal.specs.declared.Refusal.{Refusal}
 use Rattle.refusal.specs.Checked.{Checked, accepted, refused, refusedBy}
-use Rattle.commands.specs.Commands.{FACTS, JOB, GOAL, END-OF-TABLE}
+use Rattle.refusal.specs.CheckedLaws.{not-both, accepted-same}
+use Rattle.commands.specs.Commands.{FACTS, JOB, GOAL, END-OF-TABLE, FACTS-SIZE, JOB-SIZE, GOAL-SIZE, END-OF-TABLE-SIZE, OPERANDS-AT, NEEDS-AT, ADDS-AT, DELETES-AT, SECONDS-AT}
 use Rattle.numbers.specs.Numbers.{toBytes}
 use Rattle.numbers.specs.NumberLaws.{sets-after, to-length}
-use Rattle.table.specs.declared.Job.{Job}
-use Rattle.table.specs.Table.{Table, maxJobs, noJob, jobBytes, jobsBytes, goalBytes, tableBytes}
-use Rattle.table.specs.Read.{factsInRange, judged}
-use Rattle.table.specs.Sound.{StorableJob, Storable, judgedFrom, judgedTable}
-use Rattle.table.specs.RoundTrip.{jobs-length, read-written, judged-table}
-use Rattle.table_writer.specs.Write.{even, rowAt, rows, tableOf, written, short, uneven, unsound, writing, lentAfter, writingOf, Wrote}
+use Rattle.job.specs.declared.Job.{Job}
+use Rattle.job.specs.Job.{noJob, jobBytes, jobSize, StorableJob}
+use Rattle.job.specs.Validation.{validatedJob}
+use Rattle.table.specs.Table.{Table, maxFacts, maxJobs, jobsBytes, goalBytes, tableBytes, offsetOf, goalOffset}
+use Rattle.table.specs.Read.{factsInRange}
+use Rattle.table.specs.Sound.{Storable, validatedFrom, validatedTable}
+use Rattle.table.specs.RoundTripLaws.{read-written, validated-table}
+use Rattle.table.specs.OffsetLaws.{jobs-snoc, last-offset, next-offset, offset-small, offset-within}
 use Rattle.table_writer.specs.declared.TableWritten.{TableWritten}
+use Rattle.table_writer.specs.Write.{even, rowAt, rows, tableOf, written, short, uneven, unsound, writing, lentAfter, tableWrittenOf, Wrote, placed}
 
 -- ---- even columns
 
@@ -46,17 +50,17 @@ module _ (needs adds deletes seconds : List ℕ) (e : even needs adds deletes se
 
 -- ---- stores, one run after another
 
-pub job-written : (l : List ℕ) (at : ℕ) (j : Job)
-    → sets (sets (sets (sets (set l at JOB) (at + 1) (toBytes 8 (j .needs))) (at + 9) (toBytes 8 (j .adds))) (at + 17) (toBytes 8 (j .deletes))) (at + 25) (toBytes 2 (j .seconds))
+job-written : (l : List ℕ) (at : ℕ) (j : Job)
+    → sets (sets (sets (sets (set l at JOB) (at + NEEDS-AT) (toBytes 8 (j .needs))) (at + ADDS-AT) (toBytes 8 (j .adds))) (at + DELETES-AT) (toBytes 8 (j .deletes))) (at + SECONDS-AT) (toBytes 2 (j .seconds))
     ≡ sets l at (jobBytes j)
 unfolding jobBytes
 job-written l at j =
     rw (
-      sets-after l (JOB ∷ []) (toBytes 8 (j .needs)) at (at + 1) refl,
-      sets-after l (JOB ∷ toBytes 8 (j .needs)) (toBytes 8 (j .adds)) at (at + 9) (omega (arith, to-length 8 (j .needs))),
-      sets-after l (JOB ∷ toBytes 8 (j .needs) ++ toBytes 8 (j .adds)) (toBytes 8 (j .deletes)) at (at + 17)
+      sets-after l (JOB ∷ []) (toBytes 8 (j .needs)) at (at + NEEDS-AT) refl,
+      sets-after l (JOB ∷ toBytes 8 (j .needs)) (toBytes 8 (j .adds)) at (at + ADDS-AT) (omega (arith, to-length 8 (j .needs))),
+      sets-after l (JOB ∷ toBytes 8 (j .needs) ++ toBytes 8 (j .adds)) (toBytes 8 (j .deletes)) at (at + DELETES-AT)
           (omega (arith, to-length 8 (j .needs), to-length 8 (j .adds), length-append (toBytes 8 (j .needs)) (toBytes 8 (j .adds)))),
-      sets-after l ((JOB ∷ toBytes 8 (j .needs) ++ toBytes 8 (j .adds)) ++ toBytes 8 (j .deletes)) (toBytes 2 (j .seconds)) at (at + 25)
+      sets-after l ((JOB ∷ toBytes 8 (j .needs) ++ toBytes 8 (j .adds)) ++ toBytes 8 (j .deletes)) (toBytes 2 (j .seconds)) at (at + SECONDS-AT)
           (omega (
             arith,
             to-length 8 (j .needs),
@@ -68,162 +72,178 @@ job-written l at j =
     )
     (simp append-assoc)
 
-pub goal-written : (l : List ℕ) (at goal : ℕ) → set (sets (set l at GOAL) (at + 1) (toBytes 8 goal)) (at + 9) END-OF-TABLE ≡ sets l at (goalBytes goal)
+pub job-stored : (l needs adds deletes out : List ℕ) (at : ℕ) (j : Job) → needs ≡ sets (set l at JOB) (at + NEEDS-AT) (toBytes 8 (j .needs))
+    → adds ≡ sets needs (at + ADDS-AT) (toBytes 8 (j .adds)) → deletes ≡ sets adds (at + DELETES-AT) (toBytes 8 (j .deletes))
+    → out ≡ sets deletes (at + SECONDS-AT) (toBytes 2 (j .seconds)) → out ≡ sets l at (jobBytes j)
+job-stored l needs adds deletes out at j n a d s = rw (s, d, a, n) (job-written l at j)
+
+pub goal-written : (l : List ℕ) (at goal : ℕ) → set (sets (set l at GOAL) (at + OPERANDS-AT) (toBytes 8 goal)) (at + GOAL-SIZE) END-OF-TABLE ≡ sets l at (goalBytes goal)
 unfolding goalBytes
 goal-written l at goal =
-    rw (sets-after l (GOAL ∷ []) (toBytes 8 goal) at (at + 1) refl)
-    (sets-after l (GOAL ∷ toBytes 8 goal) (END-OF-TABLE ∷ []) at (at + 9) (omega (arith, to-length 8 goal)))
+    rw (sets-after l (GOAL ∷ []) (toBytes 8 goal) at (at + OPERANDS-AT) refl)
+    (sets-after l (GOAL ∷ toBytes 8 goal) (END-OF-TABLE ∷ []) at (at + GOAL-SIZE) (omega (arith, to-length 8 goal)))
 
-jobs-snoc : (js : List Job) (j : Job) → jobsBytes (js ++ (j ∷ [])) ≡ jobsBytes js ++ jobBytes j
-unfolding jobsBytes
-jobs-snoc [] j = append-nil (jobBytes j)
-jobs-snoc (k ∷ js) j = ap (λ (r : List ℕ). jobBytes k ++ r) (jobs-snoc js j) ∙ sym (append-assoc (jobBytes k) (jobsBytes js) (jobBytes j))
+-- where the job after a row stands
+pub row-ends : (js : List Job) (row : Job) (i at : ℕ) → i < length js → at ≡ offsetOf js i → row ≡ getD js i noJob → at + jobSize row ≡ offsetOf js (i + 1)
+row-ends js row i at h e r = rw (r, e, add-one i) (sym (next-offset js i h))
 
-pub jobs-written : (l : List ℕ) (js : List Job) (j : Job) (at : ℕ) → 2 + 27 * length js ≡ at → sets (sets l 2 (jobsBytes js)) at (jobBytes j) ≡ sets l 2 (jobsBytes (js ++ (j ∷ [])))
-jobs-written l js j at e = sets-after l (jobsBytes js) (jobBytes j) 2 at (omega (arith, jobs-length js)) ∙ ap (sets l 2) (sym (jobs-snoc js j))
+-- one job more in the lent slice
+pub row-written : (js : List Job) (l out : List ℕ) (row : Job) (i at : ℕ) → i < length js → at ≡ offsetOf js i → row ≡ getD js i noJob
+    → out ≡ sets l FACTS-SIZE (jobsBytes (take i js)) → sets out at (jobBytes row) ≡ sets l FACTS-SIZE (jobsBytes (take (i + 1) js))
+unfolding offsetOf
+row-written js l out row i at h e r o =
+    rw (o, r, add-one i, take-suc js i noJob h, jobs-snoc (take i js) (getD js i noJob))
+    (sets-after l (jobsBytes (take i js)) (jobBytes (getD js i noJob)) FACTS-SIZE at (sym e))
 
-goal-length : (goal : ℕ) → length (goalBytes goal) ≡ 10
+goal-length : (goal : ℕ) → length (goalBytes goal) ≡ GOAL-SIZE + END-OF-TABLE-SIZE
 unfolding goalBytes toBytes
 goal-length goal = refl
 
-pub table-length : (t : Table) → length (tableBytes t) ≡ 2 + 27 * length (t .jobs) + 10
-unfolding tableBytes
-table-length t = omega (arith, length-append (jobsBytes (t .jobs)) (goalBytes (t .goal)), jobs-length (t .jobs), goal-length (t .goal))
+table-length : (t : Table) → length (tableBytes t) ≡ goalOffset t + GOAL-SIZE + END-OF-TABLE-SIZE
+unfolding tableBytes goalOffset
+table-length t = omega (arith, length-append (jobsBytes (t .jobs)) (goalBytes (t .goal)), goal-length (t .goal))
 
-pub table-written : (l : List ℕ) (t : Table) (at : ℕ) → 2 + 27 * length (t .jobs) ≡ at → at + 10 ≤ length l
-    → sets (sets (set (set l 0 FACTS) 1 (t .facts)) 2 (jobsBytes (t .jobs))) at (goalBytes (t .goal)) ≡ tableBytes t ++ drop (at + 10) l
-unfolding tableBytes
-table-written l t at e h =
-    let size : 0 + length (tableBytes t) ≡ at + 10 = omega (arith, table-length t) in
-    sets-after (set (set l 0 FACTS) 1 (t .facts)) (jobsBytes (t .jobs)) (goalBytes (t .goal)) 2 at (omega (arith, jobs-length (t .jobs)))
-    ∙ sets-eq (tableBytes t) l 0 (omega (arith, size))
-    ∙ ap (λ (k : ℕ). tableBytes t ++ drop k l) size
+pub table-written : (l jobs out : List ℕ) (t : Table) (at size : ℕ) → at ≡ goalOffset t → at + GOAL-SIZE + END-OF-TABLE-SIZE ≡ size → size ≤ length l
+    → jobs ≡ sets (set (set l 0 FACTS) OPERANDS-AT (t .facts)) FACTS-SIZE (jobsBytes (t .jobs)) → out ≡ sets jobs at (goalBytes (t .goal)) → out ≡ tableBytes t ++ drop size l
+unfolding tableBytes goalOffset
+table-written l jobs out t at size e z h j g =
+    let all : 0 + length (tableBytes t) ≡ size = omega (arith, table-length t) in
+    g
+    ∙ rw j (sets-after (set (set l 0 FACTS) OPERANDS-AT (t .facts)) (jobsBytes (t .jobs)) (goalBytes (t .goal)) FACTS-SIZE at (sym e))
+    ∙ sets-eq (tableBytes t) l 0 (omega (arith, all))
+    ∙ ap (λ (k : ℕ). tableBytes t ++ drop k l) all
 
 -- ---- the checks, one job after another
 
-module _ (needs adds deletes seconds : List ℕ) (facts goal n i at : ℕ) where
-  -- what the checks come to from row i on, where `left` more jobs may follow
-  abbrev pub remaining : ℕ → Checked Table
-  remaining left = judgedFrom facts goal left (rows needs adds deletes seconds i) (drop i (rows needs adds deletes seconds n)) at
+-- what the checks come to from job i on, which would stand at the offset
+abbrev pub remaining : ℕ → ℕ → List Job → ℕ → ℕ → Checked Table
+remaining facts goal js i at = validatedFrom facts goal (maxJobs - i) (take i js) (drop i js) at
 
-  next-row : i < n → drop i (rows needs adds deletes seconds n) ≡ rowAt needs adds deletes seconds i ∷ drop (i + 1) (rows needs adds deletes seconds n)
-  next-row h =
-      rw (
-        add-one i,
-        drop-cons (rows needs adds deletes seconds n) i noJob (rw length-prefix h),
-        getD-prefix (rowAt needs adds deletes seconds) n i noJob h,
-      )
+module _ (facts goal : ℕ) (js : List Job) (i at : ℕ) where
+  module _ (h : i < length js) where
+    pub turn-full : i ≡ maxJobs → refused 4 at ≡ remaining facts goal js i at
+    unfolding validatedFrom
+    turn-full e = let z : maxJobs - i ≡ 0 = omega arith in rw (z, drop-cons js i noJob h)
 
-  module _ (h : i < n) where
-    pub turn-full : i ≡ maxJobs → refused 4 at ≡ remaining (maxJobs - i)
-    unfolding judgedFrom
-    turn-full e = let z : maxJobs - i ≡ 0 = omega arith in rw (z, next-row h)
-
-    module _ (l : i < maxJobs) where
+    module _ (l : i < maxJobs) (row : Job) (r : row ≡ getD js i noJob) where
       one-more : maxJobs - i ≡ suc (maxJobs - (i + 1))
       one-more = omega arith
 
-      pub turn-bad : (m p : ℕ) → refused m p ≡ judged facts at (rowAt needs adds deletes seconds i) → refused m p ≡ remaining (maxJobs - i)
-      unfolding judgedFrom
-      turn-bad m p e = rw (one-more, next-row h, ← e)
+      pub turn-bad : (n p : ℕ) → refused n p ≡ validatedJob facts at row → refused n p ≡ remaining facts goal js i at
+      unfolding validatedFrom
+      turn-bad n p e = rw (one-more, drop-cons js i noJob h, ← r, ← e)
 
-      pub turn-more : accepted (rowAt needs adds deletes seconds i) ≡ judged facts at (rowAt needs adds deletes seconds i)
-          → judgedFrom facts goal (maxJobs - (i + 1)) (rows needs adds deletes seconds (i + 1)) (drop (i + 1) (rows needs adds deletes seconds n)) (at + 27) ≡ remaining (maxJobs - i)
-      unfolding judgedFrom
-      turn-more e = rw (one-more, next-row h, ← e) (ap (λ (js : List Job). judgedFrom facts goal (maxJobs - (i + 1)) js (drop (i + 1) (rows needs adds deletes seconds n)) (at + 27)) (ap (rows needs adds deletes seconds) (add-one i)))
+      pub turn-more : accepted row ≡ validatedJob facts at row → remaining facts goal js (i + 1) (at + jobSize row) ≡ remaining facts goal js i at
+      unfolding validatedFrom
+      turn-more e = rw (one-more, drop-cons js i noJob h, ← r, ← e, add-one i, take-suc js i noJob h, ← r)
 
-  module _ (h : i ≡ n) where
-    over : drop i (rows needs adds deletes seconds n) ≡ []
-    over = drop-of-length-le (rows needs adds deletes seconds n) {i = i} (rw length-prefix (omega arith))
+  module _ (h : i ≡ length js) where
+    over : drop i js ≡ []
+    over = drop-of-length-le js {i = i} (omega arith)
 
-    pub turn-goal-out : (left : ℕ) → within facts goal ≡ false → refused 5 at ≡ remaining left
-    unfolding judgedFrom
-    turn-goal-out left e = rw (over, e)
+    pub turn-goal-out : within facts goal ≡ false → refused 5 at ≡ remaining facts goal js i at
+    unfolding validatedFrom
+    turn-goal-out e = rw (over, e)
 
-    pub turn-goal-in : (left : ℕ) → within facts goal ≡ true → accepted (record { facts = facts; jobs = rows needs adds deletes seconds n; goal = goal }) ≡ remaining left
-    unfolding judgedFrom
-    turn-goal-in left e = rw (over, e, h)
+    pub turn-goal-in : within facts goal ≡ true → accepted (record { facts = facts; jobs = js; goal = goal }) ≡ remaining facts goal js i at
+    unfolding validatedFrom
+    turn-goal-in e = rw (over, e, take-all i js (omega arith))
 
 module _ (t : Table) where
-  pub judged-no-facts : factsInRange (t .facts) ≡ false → refused 3 0 ≡ judgedTable t
-  unfolding judgedTable
-  judged-no-facts e = rw e
+  pub validated-no-facts : factsInRange (t .facts) ≡ false → refused 3 0 ≡ validatedTable t
+  unfolding validatedTable
+  validated-no-facts e = rw e
 
-  pub judged-facts : factsInRange (t .facts) ≡ true → judgedFrom (t .facts) (t .goal) maxJobs [] (t .jobs) 2 ≡ judgedTable t
-  unfolding judgedTable
-  judged-facts e = rw e
+  pub validated-facts : factsInRange (t .facts) ≡ true → remaining (t .facts) (t .goal) (t .jobs) 0 FACTS-SIZE ≡ validatedTable t
+  unfolding validatedTable
+  validated-facts e = rw e
 
--- ---- numbers out of slices can be stored
+-- a number of facts in range fits its byte
+pub facts-small : (facts : ℕ) → factsInRange facts ≡ true → facts ≤ maxFacts
+facts-small facts e = leb-true facts maxFacts (is-true _ (and-right (leb 1 facts) (leb facts maxFacts) (holds _ e)))
 
-pub columns-storable : (needs adds deletes seconds : List ℕ) (facts goal : ℕ) → ((i : ℕ) → getD needs i 0 < 2 ^ 64) → ((i : ℕ) → getD adds i 0 < 2 ^ 64)
-    → ((i : ℕ) → getD deletes i 0 < 2 ^ 64) → ((i : ℕ) → getD seconds i 0 < 2 ^ 16) → facts < 256 → goal < 2 ^ 64 → Storable (tableOf needs adds deletes seconds facts goal)
-columns-storable needs adds deletes seconds facts goal hn ha hd hs hf hg =
-    record { facts-fit = hf; jobs-fit = each; goal-fits = hg }
+-- what the checks tell of a table that passed them, and of its goal's place
+pub record Passed (t : Table) (at : ℕ) : Type 0 where
+  pub is-sound : accepted t ≡ validatedTable t
+  pub is-place : at ≡ goalOffset t
+  pub facts-fit : t .facts ≤ maxFacts
+  pub is-small : at ≤ FACTS-SIZE + JOB-SIZE * maxJobs
+
+pub placed-sound : (t : Table) (at : ℕ) → accepted at ≡ placed (validatedTable t) → Passed t at
+placed-sound t at e = by (validatedTable t) refl e
   where
-    row : (i : ℕ) → StorableJob (rowAt needs adds deletes seconds i)
-    row i = record { needs-fit = hn i; adds-fit = ha i; deletes-fit = hd i; seconds-fit = hs i }
+    by : (r : Checked Table) → validatedTable t ≡ r → accepted at ≡ placed r → Passed t at
+    by (accepted u) q p =
+        let v = validated-table t u q in
+        let place : at ≡ goalOffset t = accepted-same p ∙ ap goalOffset (sym (v .0)) in
+        record {
+          is-sound = ap accepted (v .0) ∙ sym q;
+          is-place = place;
+          facts-fit = facts-small (t .facts) (v .1 .facts-in-range);
+          is-small = omega (arith, place, last-offset t, offset-small (t .jobs) (length (t .jobs)), v .1 .few);
+        }
+    by (refused n p) q r = absurd (not-both (sym r))
 
-    blank : StorableJob noJob
-    blank = record { needs-fit = omega arith; adds-fit = omega arith; deletes-fit = omega arith; seconds-fit = omega arith }
+pub placed-refused : (t : Table) (n p : ℕ) → refused n p ≡ placed (validatedTable t) → refused n p ≡ validatedTable t
+placed-refused t n p e = by (validatedTable t) e
+  where
+    by : (r : Checked Table) → refused n p ≡ placed r → refused n p ≡ r
+    by (accepted u) q = absurd (not-both q)
+    by (refused n p) q = cc
 
-    each : (i : ℕ) → StorableJob (getD (rows needs adds deletes seconds (length needs)) i noJob)
-    each i =
-        elim (decLt i (length needs)) [
-          | yes h ↦ rw (getD-prefix (rowAt needs adds deletes seconds) (length needs) i noJob h) (row i)
-          | no h ↦ rw (List·getD-eq-default (rows needs adds deletes seconds (length needs)) noJob {n = i} (rw length-prefix (omega arith))) blank
-        ]
+-- ---- jobs out of columns
 
--- ---- what comes of it
+module _ (needs adds deletes seconds : List ℕ) where
+  abbrev pub jobsIn : List Job
+  jobsIn = rows needs adds deletes seconds (length needs)
 
-pub writing-uneven : (t : Table) (room : ℕ) → uneven ≡ writing false t room
-unfolding writing
-writing-uneven t room = refl
+  pub rows-length : length jobsIn ≡ length needs
+  rows-length = length-prefix (rowAt needs adds deletes seconds) (length needs)
 
-module _ (t : Table) (room : ℕ) (h : Storable t) where
-  pub writing-unsound : (n p : ℕ) → refused n p ≡ judgedTable t → unsound n p ≡ writing true t room
-  unfolding writing
-  writing-unsound n p e = rw (read-written t h, ← e)
+  pub row-of : (i : ℕ) → i < length needs → rowAt needs adds deletes seconds i ≡ getD jobsIn i noJob
+  row-of i h = sym (getD-prefix (rowAt needs adds deletes seconds) (length needs) i noJob h)
 
-  module _ (e : accepted t ≡ judgedTable t) (size : ℕ) (z : 2 + 27 * length (t .jobs) + 10 ≡ size) where
-    is-size : length (tableBytes t) ≡ size
-    is-size = table-length t ∙ z
+  -- numbers out of slices can be stored
+  pub columns-storable : (facts goal : ℕ) → ((i : ℕ) → getD needs i 0 < 2 ^ 64) → ((i : ℕ) → getD adds i 0 < 2 ^ 64)
+      → ((i : ℕ) → getD deletes i 0 < 2 ^ 64) → ((i : ℕ) → getD seconds i 0 < 2 ^ 16) → goal < 2 ^ 64 → facts < 256 → Storable (tableOf needs adds deletes seconds facts goal)
+  columns-storable facts goal hn ha hd hs hg hf = record { facts-fit = hf; jobs-fit = each; goal-fits = hg }
+    where
+      row : (i : ℕ) → StorableJob (rowAt needs adds deletes seconds i)
+      row i = record { needs-fit = hn i; adds-fit = ha i; deletes-fit = hd i; seconds-fit = hs i }
 
-    pub writing-short : room < size → short size ≡ writing true t room
-    unfolding writing
-    writing-short l = rw (read-written t h, ← e, is-size, lt-leb size room l)
+      blank : StorableJob noJob
+      blank = record { needs-fit = omega arith; adds-fit = omega arith; deletes-fit = omega arith; seconds-fit = omega arith }
 
-    pub writing-written : size ≤ room → written size ≡ writing true t room
-    unfolding writing
-    writing-written l = rw (read-written t h, ← e, is-size, le-leb size room l)
+      each : (i : ℕ) → StorableJob (getD jobsIn i noJob)
+      each i =
+          elim (decLt i (length needs)) [
+            | yes h ↦ rw (← row-of i h) (row i)
+            | no h ↦ rw (List·getD-eq-default jobsIn noJob {n = i} (rw rows-length (omega arith))) blank
+          ]
 
--- one job more in the lent slice
-pub row-written : (needs adds deletes seconds l out : List ℕ) (row : Job) (i at : ℕ) → out ≡ sets l 2 (jobsBytes (rows needs adds deletes seconds i))
-    → row ≡ rowAt needs adds deletes seconds i → at ≡ 2 + 27 * i → sets out at (jobBytes row) ≡ sets l 2 (jobsBytes (rows needs adds deletes seconds (i + 1)))
-row-written needs adds deletes seconds l out row i at o r e =
-    rw (o, r, add-one i) (jobs-written l (rows needs adds deletes seconds i) (rowAt needs adds deletes seconds i) at (omega (arith, length-prefix (rowAt needs adds deletes seconds) i)))
+-- ---- what comes of it, each way with the lent slice
 
--- ---- each way, with the lent slice
-
-module _ (b : Bool) (t : Table) (l : List ℕ) where
-  wrote : (r : TableWritten) (after : List ℕ) → writingOf r ≡ writing b t (length l) → after ≡ lentAfter (writingOf r) (tableBytes t) l → Wrote b t l after r
-  wrote r after e a = record { answer = e; lent = rw (← e) a }
+module _ (b : Bool) (t : Table) (l : List ℕ) (fits : t .facts < 256 → Storable t) where
+  wrote : (r : TableWritten) (after : List ℕ) → tableWrittenOf r ≡ writing b t (length l) → after ≡ lentAfter (tableWrittenOf r) (tableBytes t) l → Wrote b t l after r
+  wrote r after e a = record { answer = e; lent = rw (← e) a; as-read = λ h. sym (read-written t (fits h)) }
 
   pub wrote-uneven : b ≡ false → Wrote b t l l TableWritten.Uneven
-  wrote-uneven e = wrote TableWritten.Uneven l (rw e (writing-uneven t (length l))) refl
+  unfolding writing
+  wrote-uneven e = wrote TableWritten.Uneven l (rw e) refl
 
-  module _ (e : b ≡ true) (h : Storable t) where
-    pub wrote-unsound : (x : Refusal) → refusedBy x ≡ judgedTable t → Wrote b t l l (TableWritten.Refused x)
-    wrote-unsound x j = wrote (TableWritten.Refused x) l (rw e (writing-unsound t (length l) h _ _ j)) refl
+  module _ (e : b ≡ true) where
+    pub wrote-unsound : (x : Refusal) → refusedBy x ≡ validatedTable t → Wrote b t l l (TableWritten.Refused x)
+    unfolding writing
+    wrote-unsound x j = wrote (TableWritten.Refused x) l (rw (e, ← j)) refl
 
-    module _ (j : accepted t ≡ judgedTable t) (size : ℕ) (z : 2 + 27 * length (t .jobs) + 10 ≡ size) where
+    module _ (at size : ℕ) (j : Passed t at) (z : at + GOAL-SIZE + END-OF-TABLE-SIZE ≡ size) where
+      is-size : length (tableBytes t) ≡ size
+      is-size = omega (arith, table-length t, j .is-place)
+
       pub wrote-short : length l < size → Wrote b t l l (TableWritten.TooShort size)
-      wrote-short s = wrote (TableWritten.TooShort size) l (rw e (writing-short t (length l) h j size z s)) refl
+      unfolding writing
+      wrote-short s = wrote (TableWritten.TooShort size) l (rw (e, ← j .is-sound, is-size, lt-leb size (length l) s)) refl
 
       pub wrote-whole : size ≤ length l → (after : List ℕ) → after ≡ tableBytes t ++ drop size l → Wrote b t l after (TableWritten.Written size)
-      wrote-whole s after a = wrote (TableWritten.Written size) after (rw e (writing-written t (length l) h j size z s)) a
-
--- a table that was judged sound has few jobs, so its size is a small number
-pub columns-few : (needs adds deletes seconds : List ℕ) (facts goal : ℕ)
-    → accepted (tableOf needs adds deletes seconds facts goal) ≡ judgedTable (tableOf needs adds deletes seconds facts goal) → length needs ≤ maxJobs
-columns-few needs adds deletes seconds facts goal e =
-    omega (arith, judged-table (tableOf needs adds deletes seconds facts goal) _ (sym e) .1 .few, length-prefix (rowAt needs adds deletes seconds) (length needs))
+      unfolding writing
+      wrote-whole s after a = wrote (TableWritten.Written size) after (rw (e, ← j .is-sound, is-size, le-leb size (length l) s)) a

@@ -3,6 +3,7 @@
 use native.Mathlib.Omega.{arith}
 use borrow.Author.Needs.{needs}
 use mathlib.Core.Path.{sym, ap, _∙_}
+use Rattle.commands.specs.Commands.{OPERANDS-AT}
 use Rattle.table.specs.Read.{dueOf, headed, tableReadOf}
 use Rattle.table.specs.ReadLaws.{facts-inside, table-refused, table-facts, table-no-facts}
 use Rattle.table.proofs.read_table.Statement.{statement}
@@ -19,8 +20,12 @@ enum-known-next c = search needs
 
 shared-slice-read-facts : tie.Need-shared-slice-read-facts
 shared-slice-read-facts c =
-    let e = ap dueOf (sym (c .before .before .next .given .1)) ∙ c .before .before .before .before .command-due .ensures in
+    let b = c .before .before in
+    let e = ap dueOf (sym (b .next .given .1)) ∙ b .before .before .command-due .ensures in
     omega (arith, facts-inside _ _ _ e .1)
+
+cast-facts-in-range : tie.Need-cast-facts-in-range
+cast-facts-in-range c = omega (arith, c .shared-slice-known2 .given OPERANDS-AT)
 
 facts-in-range-requires : tie.Need-facts-in-range-requires
 facts-in-range-requires c κs = search needs
@@ -36,12 +41,14 @@ returns c = ap headed (table-refused _ _ _ (ap dueOf (sym (c .before .x .given .
 
 returns-2 : tie.Need-returns-2
 returns-2 c =
-    let e = ap dueOf (sym (c .before .before .before .before .before .next .given .1)) ∙ c .before .before .before .before .before .before .before .command-due .ensures in
+    let b = c .before .before .before .before .before in
+    let e = ap dueOf (sym (b .next .given .1)) ∙ b .before .before .command-due .ensures in
     c .read-jobs .ensures ∙ ap headed (table-facts _ _ e (sym (c .before .before .facts-in-range .ensures) ∙ c .before .if1 .taken))
 
 returns-3 : tie.Need-returns-3
 returns-3 c =
-    let e = ap dueOf (sym (c .before .before .before .before .before .next .given .1)) ∙ c .before .before .before .before .before .before .before .command-due .ensures in
+    let b = c .before .before .before .before .before in
+    let e = ap dueOf (sym (b .next .given .1)) ∙ b .before .before .command-due .ensures in
     ap tableReadOf (c .refused .ensures) ∙ ap headed (table-no-facts _ _ e (sym (c .before .before .facts-in-range .ensures) ∙ c .before .if1 .left))
 
 pub read-table-spec : {M : Type 1} → statement M
@@ -52,6 +59,7 @@ read-table-spec =
     enum-known-x
     enum-known-next
     shared-slice-read-facts
+    cast-facts-in-range
     facts-in-range-requires
     read-jobs-requires
     refused-requires

@@ -3,35 +3,70 @@
 -- Assumes nothing.
 use borrow.Author.Needs.{needs}
 use native.Mathlib.Omega.{arith}
-use mathlib.Core.Path.{_≡_, refl, _∙_}
-use Prim.Native.Nat.{_+_, _*_, _-_, _≤_}
-use lib.ListN.{length}
-use lib.Seq.{sets}
-use Rattle.table.specs.Table.{jobsBytes}
-use Rattle.table_writer.specs.Write.{rows}
-use Rattle.table_writer.specs.WriteLaws.{row-written}
+use mathlib.Core.Path.{_≡_, refl, sym, ap, _∙_}
+use mathlib.Core.List.{List}
+use Prim.Native.Nat.{_+_, _-_, _≤_, _<_}
+use lib.ListN.{length, take, getD}
+use lib.Seq.{sets, take-all}
+use Rattle.commands.specs.Commands.{FACTS-SIZE}
+use Rattle.job.specs.declared.Job.{Job}
+use Rattle.job.specs.Job.{noJob, jobSize}
+use Rattle.table.specs.Table.{jobsBytes, offsetOf}
+use Rattle.table.specs.OffsetLaws.{first-offset, offset-within}
+use Rattle.table_writer.specs.WriteLaws.{jobsIn, rows-length, row-of, row-ends, row-written}
 use Rattle.table_writer.proofs.put_jobs.Statement.{statement}
 use Rattle.table_writer.proofs.put_jobs.Tie as tie
 
 abbrev Inv-loop : tie.InvT-loop
 Inv-loop needs adds deletes seconds out₀ at₀ i₀ out at i =
-    ((i ≤ length needs) × (at ≡ 2 + 27 * i) × (length out ≡ length out₀)) × (out ≡ sets out₀ 2 (jobsBytes (rows needs adds deletes seconds i)))
+    ((i ≤ length needs) × (at ≡ offsetOf (jobsIn needs adds deletes seconds) i) × (length out ≡ length out₀))
+    × (out ≡ sets out₀ FACTS-SIZE (jobsBytes (take i (jobsIn needs adds deletes seconds))))
 
 abbrev μ-loop : tie.MeasureT-loop
 μ-loop needs adds deletes seconds out₀ at₀ i₀ out at i = length needs - i
 
+-- ---- the places that several answers look back at
+
+abbrev start-of : tie.At-loop Inv-loop μ-loop → tie.Start Inv-loop μ-loop
+start-of c = c .before .before .before .before .before .before
+
+-- a row is at hand
+abbrev turn-of : tie.After-row-at Inv-loop μ-loop → tie.In-loop Inv-loop μ-loop
+turn-of c = c .before .before
+
+abbrev jobs : tie.Start Inv-loop μ-loop → List Job
+jobs c = jobsIn (c .args .needs .now) (c .args .adds .now) (c .args .deletes .now) (c .args .seconds .now)
+
+is-row : (c : tie.After-row-at Inv-loop μ-loop) → c .row-at .result ≡ getD (jobs (start-of (turn-of c .before))) (turn-of c .before .loop .i) noJob
+is-row c =
+    let a = start-of (turn-of c .before) .args in
+    c .row-at .ensures ∙ row-of (a .needs .now) (a .adds .now) (a .deletes .now) (a .seconds .now) (turn-of c .before .loop .i) (turn-of c .loop-test .taken)
+
+inside : (c : tie.In-loop Inv-loop μ-loop) → c .before .loop .i < length (jobs (start-of (c .before)))
+inside c =
+    let a = start-of (c .before) .args in
+    omega (arith, c .loop-test .taken, rows-length (a .needs .now) (a .adds .now) (a .deletes .now) (a .seconds .now))
+
+next : (c : tie.After-row-at Inv-loop μ-loop)
+    → turn-of c .before .loop .at + jobSize (c .row-at .result) ≡ offsetOf (jobs (start-of (turn-of c .before))) (turn-of c .before .loop .i + 1)
+next c =
+    let l = turn-of c .before .loop in
+    row-ends (jobs (start-of (turn-of c .before))) _ (l .i) (l .at) (inside (turn-of c)) (l .inv .0 .1) (is-row c)
+
+-- ---- the needs
+
 loop-holds : tie.Need-loop-holds Inv-loop μ-loop
 unfolding jobsBytes
-loop-holds c = (omega arith, refl)
+loop-holds c = ((omega arith, sym (first-offset _), refl), refl)
 
 row-at-requires : tie.Need-row-at-requires Inv-loop μ-loop
-row-at-requires c κs = (c .before .loop-test .taken, c .before .before .before .before .before .before .before .before .pre .0)
+row-at-requires c κs = (c .before .loop-test .taken, start-of (c .before .before) .pre .0)
 
 put-job-requires : tie.Need-put-job-requires Inv-loop μ-loop
-put-job-requires c κs = omega (arith, c .before .before .before .before .before .before .before .before .before .pre .1, c .before .before .before .loop .inv .0)
-
-add-at : tie.Need-add-at Inv-loop μ-loop
-add-at c = search needs
+put-job-requires c κs =
+    let t = turn-of c in
+    let s = start-of (t .before) in
+    omega (arith, next c, offset-within (jobs s) (t .before .loop .i + 1), s .pre .1, t .before .loop .inv .0 .2)
 
 add-i : tie.Need-add-i Inv-loop μ-loop
 add-i c = search needs
@@ -41,10 +76,12 @@ loop-less c = search needs
 
 loop-again : tie.Need-loop-again Inv-loop μ-loop
 loop-again c =
-    let l = c .before .before .before .before .before .before .loop in
-    let a = c .before .before .before .before .before .before .before .before .before .before .before .before .args in (
-      omega (arith, c .before .before .put-job .kept .0),
-      c .before .before .put-job .ensures ∙ row-written (a .needs .now) (a .adds .now) (a .deletes .now) (a .seconds .now) _ _ _ (l .i) (l .at) (l .inv .1) (c .before .before .before .row-at .ensures) (l .inv .0 .1),
+    let p = c .before .before in
+    let r = p .before in
+    let l = turn-of r .before .loop in
+    let js = jobs (start-of (turn-of r .before)) in (
+      (omega (arith, turn-of r .loop-test .taken), p .put-job .ensures .0 ∙ next r, omega (arith, p .put-job .kept .0, l .inv .0 .2)),
+      p .put-job .ensures .1 ∙ row-written js _ _ _ (l .i) (l .at) (inside (turn-of r)) (l .inv .0 .1) (is-row r) (l .inv .1),
     )
 
 same-length : tie.Need-same-length Inv-loop μ-loop
@@ -53,8 +90,10 @@ same-length c = search needs
 returns : tie.Need-returns Inv-loop μ-loop
 returns c =
     let l = c .before .loop in
-    let n : l .i ≡ length (c .before .before .before .before .before .before .before .args .needs .now) = omega arith in
-    rw n at (l .inv .1)
+    let a = start-of (c .before) .args in
+    let js = jobs (start-of (c .before)) in
+    let all : take (l .i) js ≡ js = take-all (l .i) js (omega (arith, c .loop-test .left, rows-length (a .needs .now) (a .adds .now) (a .deletes .now) (a .seconds .now))) in
+    l .inv .1 ∙ rw all
 
 pub put-jobs-spec : {M : Type 1} → statement M
 put-jobs-spec =
@@ -65,7 +104,6 @@ put-jobs-spec =
     loop-holds
     row-at-requires
     put-job-requires
-    add-at
     add-i
     loop-less
     loop-again
