@@ -47,6 +47,9 @@ unfolding bit difference
 bit-difference a b zero = omega (arith, and-step a b, and-le-l (a / 2) (b / 2))
 bit-difference a b (suc i) = rw (less-half a b) (bit-difference (a / 2) (b / 2) i)
 
+-- what each fact of a set is, by the facts of the sets that it is made of
+pub ruleset bits = (bit-union, bit-difference, bit-empty)
+
 -- sets with the same facts are equal
 pub same-bits : (a b : ℕ) → ((i : ℕ) → bit a i ≡ bit b i) → a ≡ b
 unfolding bit

@@ -9,7 +9,7 @@ use lib.Pow.{pow-pos}
 use borrow.Author.Tests.{lt-ltb, eq-eqb, ne-eqb, ltb-false, ltb-true}
 use lib.Dec.{T, eqb, ltb, ltb→lt, lt→ltb}
 use Rattle.masks.specs.Sets.{subset, intersects, union, difference, within}
-use Rattle.masks.specs.Bits.{bit-le, bit-empty, bit-union, bit-difference, same-bits, subset-bits, bits-subset, disjoint-bits, bits-disjoint, within-bits, bits-within}
+use Rattle.masks.specs.Bits.{bit-le, bits, same-bits, subset-bits, bits-subset, disjoint-bits, bits-disjoint, within-bits, bits-within}
 
 -- ---- subset
 
@@ -23,36 +23,36 @@ pub subset-antisym : (a b : ℕ) → T (subset a b) → T (subset b a) → a ≡
 subset-antisym a b p q = same-bits a b (λ i. omega (arith, subset-bits a b p i, subset-bits b a q i))
 
 pub empty-subset : (a : ℕ) → T (subset 0 a)
-empty-subset a = bits-subset 0 a (λ i. omega (arith, bit-empty i))
+empty-subset a = bits-subset 0 a (λ i. simp bits (omega arith))
 
 -- ---- union
 
 pub subset-union-left : (a b : ℕ) → T (subset a (union a b))
-subset-union-left a b = bits-subset a (union a b) (λ i. omega (arith, bit-union a b i))
+subset-union-left a b = bits-subset a (union a b) (λ i. simp bits (omega arith))
 
 pub subset-union-right : (a b : ℕ) → T (subset b (union a b))
-subset-union-right a b = bits-subset b (union a b) (λ i. omega (arith, bit-union a b i))
+subset-union-right a b = bits-subset b (union a b) (λ i. simp bits (omega arith))
 
 pub union-subset : (a b c : ℕ) → T (subset a c) → T (subset b c) → T (subset (union a b) c)
-union-subset a b c p q = bits-subset (union a b) c (λ i. omega (arith, bit-union a b i, subset-bits a c p i, subset-bits b c q i))
+union-subset a b c p q = bits-subset (union a b) c (λ i. simp bits (omega (arith, subset-bits a c p i, subset-bits b c q i)))
 
 pub union-mono : (a b c d : ℕ) → T (subset a c) → T (subset b d) → T (subset (union a b) (union c d))
-union-mono a b c d p q = bits-subset (union a b) (union c d) (λ i. omega (arith, bit-union a b i, bit-union c d i, subset-bits a c p i, subset-bits b d q i))
+union-mono a b c d p q = bits-subset (union a b) (union c d) (λ i. simp bits (omega (arith, subset-bits a c p i, subset-bits b d q i)))
 
 -- ---- difference
 
 pub difference-subset : (a b : ℕ) → T (subset (difference a b) a)
-difference-subset a b = bits-subset (difference a b) a (λ i. omega (arith, bit-difference a b i))
+difference-subset a b = bits-subset (difference a b) a (λ i. simp bits (omega arith))
 
 pub difference-mono : (a b c d : ℕ) → T (subset a c) → T (subset d b) → T (subset (difference a b) (difference c d))
 difference-mono a b c d p q =
-    bits-subset (difference a b) (difference c d) (λ i. omega (arith, bit-difference a b i, bit-difference c d i, subset-bits a c p i, subset-bits d b q i))
+    bits-subset (difference a b) (difference c d) (λ i. simp bits (omega (arith, subset-bits a c p i, subset-bits d b q i)))
 
 pub difference-disjoint : (a b : ℕ) → T (not (intersects (difference a b) b))
-difference-disjoint a b = bits-disjoint (difference a b) b (λ i. omega (arith, bit-difference a b i, bit-le a i, bit-le b i))
+difference-disjoint a b = bits-disjoint (difference a b) b (λ i. simp bits (omega (arith, bit-le a i, bit-le b i)))
 
 pub difference-empty : (a : ℕ) → difference a 0 ≡ a
-difference-empty a = same-bits (difference a 0) a (λ i. omega (arith, bit-difference a 0 i, bit-empty i))
+difference-empty a = same-bits (difference a 0) a (λ i. simp bits (omega arith))
 
 -- ---- disjoint sets
 
@@ -68,7 +68,7 @@ pub within-subset : (f a b : ℕ) → T (subset a b) → T (within f b) → T (w
 within-subset f a b p t = bits-within f a (λ i l. omega (arith, subset-bits a b p i, within-bits f b t i l))
 
 pub within-union : (f a b : ℕ) → T (within f a) → T (within f b) → T (within f (union a b))
-within-union f a b s t = bits-within f (union a b) (λ i l. omega (arith, bit-union a b i, within-bits f a s i l, within-bits f b t i l))
+within-union f a b s t = bits-within f (union a b) (λ i l. simp bits (omega (arith, within-bits f a s i l, within-bits f b t i l)))
 
 pub within-difference : (f a b : ℕ) → T (within f a) → T (within f (difference a b))
 within-difference f a b t = within-subset f (difference a b) a (difference-subset a b) t

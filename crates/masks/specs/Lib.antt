@@ -1,4 +1,3 @@
 pub mod Sets
 pub mod Bits
 pub mod Laws
-pub mod Effects
