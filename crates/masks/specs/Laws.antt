@@ -9,7 +9,7 @@ use lib.Pow.{pow-pos}
 use borrow.Author.Tests.{lt-ltb, eq-eqb, ne-eqb, ltb-false, ltb-true}
 use lib.Dec.{T, eqb, ltb, ltb→lt, lt→ltb}
 use Rattle.masks.specs.Sets.{subset, intersects, union, difference, within}
-use Rattle.masks.specs.Bits.{bit-le, bits, same-bits, subset-bits, bits-subset, disjoint-bits, bits-disjoint, within-bits, bits-within}
+use Rattle.masks.specs.Bits.{bit-le, bit-empty, bits, same-bits, subset-bits, bits-subset, disjoint-bits, bits-disjoint, within-bits, bits-within}
 
 -- ---- subset
 
