@@ -1,4 +1,5 @@
 pub mod Plan
 pub mod Works
+pub mod RowLaws
 pub mod PlanLaws
 pub mod WorksLaws

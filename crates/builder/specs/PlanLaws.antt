@@ -167,7 +167,7 @@ module _ {Told : Type 0} (t : Table) (until : Until) (before after : Columns) (x
       here : plan ≡ record { answer = refused n p; list = entries outcome; tree = [] }
       here = ap (finishedBy (length lent) tell (entries outcome)) (refused-listed E n p e)
 
-  pub writes-tree : (n : ℕ) → expandedOf until x ≡ accepted n → (tree : List ℕ)
+  writes-tree : (n : ℕ) → expandedOf until x ≡ accepted n → (tree : List ℕ)
       → WritesTree (withTree (length lent) (tell (held after n)) (held after n)) lent tree told → WritesPlan plan before after lent tree told
   unfolding tablePlan
   writes-tree n e tree W = record { tables = tables-are; answer-and-tree = rw here W }
@@ -176,7 +176,7 @@ module _ {Told : Type 0} (t : Table) (until : Until) (before after : Columns) (x
       here = ap (finishedBy (length lent) tell (entries outcome)) (ended-listed E n e)
 
 -- the tree of the columns' conditions and actions is that of the list
-pub tree-held : (after : Columns) (n : ℕ) (lent tree : List ℕ) (told : Checked Size)
+tree-held : (after : Columns) (n : ℕ) (lent tree : List ℕ) (told : Checked Size)
     → WritesTree (withTree (length lent) (sizeOf (lines (after .conditions) (after .actions) n)) (lines (after .conditions) (after .actions) n)) lent tree told
     → WritesTree (withTree (length lent) (sizeOf (held after n)) (held after n)) lent tree told
 tree-held after n lent tree told W =
@@ -189,6 +189,14 @@ tree-held after n lent tree told W =
     as-told : (c : Checked Size) → andThen c (λ x. accepted x) ≡ c
     as-told (accepted s) = refl
     as-told (refused n p) = refl
+
+-- the list ended as was asked, and the tree of its columns is written where it fits
+pub writes-built : (t : Table) (until : Until) (before after : Columns) (x : Expanded) (E : Expands (tableActions t) (t .goal) until before after x)
+    (lent : List ℕ) (told : Checked Size) (n : ℕ) → expandedOf until x ≡ accepted n → (tree : List ℕ)
+    → WritesTree (withTree (length lent) (sizeOf (lines (after .conditions) (after .actions) n)) (lines (after .conditions) (after .actions) n)) lent tree told
+    → WritesPlan (tablePlan until t (room before) (length lent) sizeOf) before after lent tree told
+writes-built t until before after x E lent told n e tree W =
+    writes-tree t until before after x E sizeOf lent told n e tree (tree-held after n lent tree told W)
 
 -- ---- what the answer of a plan tells
 

@@ -28,7 +28,7 @@ use Rattle.minutes.specs.Minutes.{nearest}
 use Rattle.expander.specs.declared.Until.{Until}
 use Rattle.expander.specs.declared.Until.the-variants.{Covers}
 use Rattle.expander.specs.Expands.{Columns, over, written, endedBy, listedBy, room}
-use Rattle.flat.specs.TreeBytes.{treeBytes}
+use Rattle.expander.specs.ExpandsLaws.{capacity-most}
 use Rattle.builder.specs.declared.Size.{Size}
 use Rattle.builder.specs.Plan.{tableActions, tableDomain, Plan, noPlan, planBy, tablePlan, afterChecks, sizeOf, WritesPlan}
 use Rattle.builder.specs.PlanLaws.{whole-told, listed-entries, plan-list, writes-other, writes-refused, writes-nothing}
@@ -148,6 +148,9 @@ covered-told start (full m) l e = absurd (not-both e)
 covered-told start (exhausted m) l e = absurd (not-both e)
 covered-told start (covered m) l e = ap covered (accepted-same e)
 
+pub columns-few : (before : Columns) → room before ≤ 4096
+columns-few t = capacity-most (length (t .conditions)) (length (t .actions)) (length (t .parents)) (length (t .depths))
+
 module _ (t : Table) (start : ℕ) (before after : Columns) (few : room before ≤ 4096) (lent tree : List ℕ) (size : Size)
     (W : WritesPlan (tablePlan (Covers start) t (room before) (length lent) sizeOf) before after lent tree (accepted size)) where
   abbrev ending : Outcome Condition
@@ -171,19 +174,44 @@ module _ (t : Table) (start : ℕ) (before after : Columns) (few : room before �
         tables = W .tables ∙ ap (λ (m : List (Entry Condition)). written m before) (plan-list (Covers start) (length lent) sizeOf ending);
       }
 
-  pub size-traced : Traced (length (t .jobs)) (size .entries) (after .actions) (after .parents) (after .depths)
+  size-traced : Traced (length (t .jobs)) (size .entries) (after .actions) (after .parents) (after .depths)
   size-traced = rw (found .sized, found .tables) (traced t (room before) few (Covers start) before (found .some))
 
   -- the way in the columns, with its time
   abbrev way : List ℕ
   way = path (linked (after .actions) (after .parents)) (size .entries - 1)
 
-  pub writes-summary : WritesPlan (tablePlan (Covers start) t (room before) (length lent) (summaryOf t)) before after lent tree
+  writes-summary : WritesPlan (tablePlan (Covers start) t (room before) (length lent) (summaryOf t)) before after lent tree
       (accepted (record { entries = size .entries; bytes = size .bytes; jobs = length way; minutes = nearest (secondsOf (t .jobs) way) }))
   unfolding tablePlan
   writes-summary =
       writes-other (Covers start) (length lent) sizeOf (summaryOf t) ending before after lent tree size _ W
-      (λ l s q. rw (s, q, way-found))
+      (λ l s q. rw (way-found, s, q))
     where
       way-found : way ≡ wayOf t (entries ending)
       way-found = rw (found .sized, found .tables) (way-held t (room before) few (Covers start) before (found .some))
+
+-- ---- what the parts leave is the plan
+
+-- a table and a start that passed the checks, and what was built
+module _ (table : List ℕ) (start : Reading) (t : Table) (e : accepted t ≡ startFor table start) (before after : Columns) (lent tree : List ℕ) (built : Checked Size)
+    (W : WritesPlan (tablePlan (Covers (start .held)) t (room before) (length lent) sizeOf) before after lent tree built) where
+  -- the list did not end as was asked, or its tree does not fit
+  pub plan-stopped : (n p : ℕ) → built ≡ refused n p → WritesPlan (planFor table start (room before) (length lent)) before after lent tree (refused n p)
+  unfolding tablePlan
+  plan-stopped n p b =
+      rw (← plan-started table start (room before) (length lent) t e)
+      (writes-refused (Covers (start .held)) (length lent) sizeOf (summaryOf t)
+      (factPlan (tableActions t) (t .goal) (room before) (endedBy (Covers (start .held)))) before after lent tree n p (rw b at W))
+
+  -- the way of the last entry can be followed in the columns
+  pub plan-traced : (size : Size) → built ≡ accepted size → Traced (length (t .jobs)) (size .entries) (after .actions) (after .parents) (after .depths)
+  plan-traced size b = size-traced t (start .held) before after (columns-few before) lent tree size (rw b at W)
+
+  pub plan-built : (size : Size) → built ≡ accepted size → (told : Summary)
+      → (let way = path (linked (after .actions) (after .parents)) (size .entries - 1) in
+      told ≡ record { entries = size .entries; bytes = size .bytes; jobs = length way; minutes = nearest (secondsOf (t .jobs) way) })
+      → WritesPlan (planFor table start (room before) (length lent)) before after lent tree (accepted told)
+  plan-built size b told s =
+      rw (← plan-started table start (room before) (length lent) t e, s)
+      (writes-summary t (start .held) before after (columns-few before) lent tree size (rw b at W))

@@ -26,7 +26,6 @@ use Rattle.planning.specs.Facts.{startPlan}
 use Rattle.planning.specs.FactLaws.{fact-start-first, fact-no-way}
 use Rattle.expander.specs.declared.Until.the-variants.{Covers}
 use Rattle.expander.specs.Expands.{Columns, room}
-use Rattle.expander.specs.ExpandsLaws.{capacity-most}
 use Rattle.builder.specs.Plan.{tableActions, tableDomain, Plan, noPlan, planBy, tablePlan, afterChecks, WritesPlan}
 use Rattle.builder.specs.PlanLaws.{plan-list, whole-told}
 use Rattle.builder.specs.Works.{FewestJobs, Irredundant, NoRoom}
@@ -34,7 +33,7 @@ use Rattle.builder.specs.WorksLaws.{list-irredundant, list-works, plan-stops}
 use Rattle.planner.specs.declared.Summary.{Summary}
 use Rattle.planner.specs.declared.Planned.{Planned}
 use Rattle.planner.specs.Plan.{summaryOf, startFor, planFor, plannedOf}
-use Rattle.planner.specs.PlanLaws.{covered-told}
+use Rattle.planner.specs.PlanLaws.{covered-told, columns-few}
 use Rattle.planner.specs.Promise.{Keeps, Plans}
 
 -- Of a table that was read, a start, and room for so many entries and so many bytes of a tree:
@@ -76,14 +75,11 @@ module _ (table : List ℕ) (b : AreBytes table) (t : Table) (e : readTable tabl
 
   no-way : (p : ℕ) → whole .answer ≡ refused 11 p → (w : List ℕ) → Reaches (tableDomain t) (start .held) w → ⊥
   no-way p a =
-      ⊎-elim (λ f. fact-no-way (tableActions t) (t .goal) capacity (start .held) (f .3 .0) (f .3 .1)) (λ f. absurd (⊎-elim other-10 other-12 f))
+      ⊎-elim (λ f. fact-no-way (tableActions t) (t .goal) capacity (start .held) (f .3 .0) (f .3 .1)) (λ f. absurd (other f))
       (plan-stops table b t e capacity (Covers (start .held)) size (summaryOf t) 11 p a)
     where
-      other-10 : {q : Type 0} → (_≡_ {A = ℕ} 11 10) × q → ⊥
-      other-10 f = omega (arith, f .0)
-
-      other-12 : {q : Type 0} → (_≡_ {A = ℕ} 11 12) × q → ⊥
-      other-12 f = omega (arith, f .0)
+      other : NoRoom capacity size (whole .list) 11 p → ⊥
+      other f = ⊎-elim (λ g. omega (arith, g .0)) (λ g. omega (arith, g .0)) f
 
   stops : (n p : ℕ) → whole .answer ≡ refused n p → ((n ≡ 11) × (p ≡ length (whole .list))) ⊎ NoRoom capacity size (whole .list) n p
   stops n p a =
@@ -119,5 +115,5 @@ plan-kept table b start before after lent tree r w =
     record {
       writes = w;
       keeps = λ t e. every-plan table b t e start (room before) (length lent)
-          (capacity-most (length (before .conditions)) (length (before .actions)) (length (before .parents)) (length (before .depths)));
+          (columns-few before);
     }

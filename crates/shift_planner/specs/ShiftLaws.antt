@@ -24,7 +24,7 @@ use Rattle.expander.specs.Expands.{Columns, room, listedBy}
 use Rattle.expander.specs.ExpandsLaws.{capacity-most}
 use Rattle.builder.specs.declared.Size.{Size}
 use Rattle.builder.specs.declared.Built.{Built}
-use Rattle.builder.specs.Plan.{tableActions, tableDomain, Plan, planBy, tablePlan, sizeOf, builtOf, WritesPlan}
+use Rattle.builder.specs.Plan.{tableActions, tableDomain, Plan, noPlan, planBy, tablePlan, sizeOf, builtOf, WritesPlan}
 use Rattle.builder.specs.PlanLaws.{plan-list, whole-told}
 use Rattle.builder.specs.Works.{FewestJobs, Irredundant, NoRoom}
 use Rattle.builder.specs.WorksLaws.{list-irredundant, list-works, plan-stops}
@@ -62,9 +62,9 @@ module _ (table : List ℕ) (b : AreBytes table) (t : Table) (e : readTable tabl
   works : (p : Size) → whole .answer ≡ accepted p → FewestJobs t table (whole .list) (whole .tree)
   works p a =
       let w = whole-told Never size sizeOf outcome p a in
-      let x = ended p a in
+      let q = exhausted-told outcome (w .list) (fact-unending (tableActions t) (t .goal) capacity) (w .listed) in
       rw (w .plan-is) (list-works table b t e capacity Never few (w .list)
-      (exhausted-nonempty (fact-plannable (tableActions t) (t .goal)) capacity (λ c. false) (w .list) (x .1)) (ap entries (x .1)))
+      (exhausted-nonempty (fact-plannable (tableActions t) (t .goal)) capacity (λ c. false) (w .list) q) (ap entries q))
 
   covers : (p : Size) → whole .answer ≡ accepted p → (s : ℕ) → CoveredBy (tableDomain t) (whole .list) s ↔ ((w : List ℕ) × Reaches (tableDomain t) s w)
   covers p a = let x = ended p a in rw (x .2) (fact-covered-iff (tableActions t) (t .goal) capacity (λ c. false) (x .0) (x .1))
@@ -81,6 +81,17 @@ module _ (table : List ℕ) (b : AreBytes table) (t : Table) (e : readTable tabl
         stops = stops;
         irredundant = rw (plan-list Never size sizeOf outcome) (list-irredundant table b t e capacity Never);
       })
+
+-- ---- the parts of the code
+
+module _ (table : List ℕ) (capacity size : ℕ) where
+  pub shift-refused : (n p : ℕ) → refused n p ≡ readTable table → noPlan n p ≡ planShift table capacity size
+  unfolding planShift
+  shift-refused n p e = rw (← e)
+
+  pub shift-read : (t : Table) → accepted t ≡ readTable table → tablePlan Never t capacity size sizeOf ≡ planShift table capacity size
+  unfolding planShift
+  shift-read t e = rw (← e)
 
 pub shift-kept : (table : List ℕ) → AreBytes table → (before after : Columns) (lent tree : List ℕ) (r : Built)
     → WritesPlan (planShift table (room before) (length lent)) before after lent tree (builtOf r) → PlansShift table before after lent tree r
