@@ -100,6 +100,10 @@ if [ -x "$bayplan" ]; then
     status=$?
     cat "$work/bayplan"
     counted bayplan_compare "$work/bayplan" $status
+    "$programs/digests" tests/digests.txt "$bayplan" "$work/folder" >"$work/digests" 2>&1
+    status=$?
+    cat "$work/digests"
+    counted digests "$work/digests" $status
 else
     bad "target/bin/bayplan is not there"
 fi

@@ -386,7 +386,7 @@ pub fn minutes(seconds: i64) -> i64 {
 }
 
 /// The five slices that a plan is lent.
-#[derive(Clone, Debug, PartialEq, Eq)]
+#[derive(Clone, Debug, Default, PartialEq, Eq)]
 pub struct Lent {
     pub conditions: Vec<u64>,
     pub jobs: Vec<u8>,
