@@ -1,6 +1,6 @@
 /* The bay planner: a C interface to the proved library.
  *
- * Build:  rt staticlib bay        gives target/staticlib/libbay.a (x86-64 Linux)
+ * Build:  tools/library.sh        gives target/staticlib/libbay.a (x86-64 Linux)
  * Link:   cc program.c -Iinclude target/staticlib/libbay.a
  *
  * Every function takes every input, checks all of it, and returns. It needs no memory but what it is lent and a small stack.

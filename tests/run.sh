@@ -57,11 +57,11 @@ if [ -n "${BAY_ARCHIVE:-}" ]; then
     archive=$BAY_ARCHIVE
 else
     archive=$root/target/staticlib/libbay.a
-    if rt staticlib bay >"$work/staticlib" 2>&1; then
-        ok "rt staticlib bay"
+    if tools/library.sh >"$work/library" 2>&1; then
+        ok "tools/library.sh"
     else
-        tail -5 "$work/staticlib"
-        bad "rt staticlib bay"
+        tail -5 "$work/library"
+        bad "tools/library.sh"
         finish
     fi
 fi
