@@ -58,7 +58,7 @@ uint64_t bay_read_job(const uint8_t *table, size_t table_len, size_t job, uint64
  * BAY_TOO_SHORT with the number of bytes that it needs, after all others. */
 #define BAY_TOO_SHORT 100
 #define BAY_UNEVEN 101
-uint64_t bay_write_table(uint8_t facts, const uint64_t *needs, size_t needs_len, const uint64_t *adds, size_t adds_len,
+uint64_t bay_write_table(size_t facts, const uint64_t *needs, size_t needs_len, const uint64_t *adds, size_t adds_len,
                          const uint64_t *deletes, size_t deletes_len, const uint16_t *seconds, size_t seconds_len,
                          uint64_t goal, uint8_t *out, size_t out_len, uint64_t answer[2]);
 
@@ -112,7 +112,7 @@ uint64_t bay_read_outside(const uint8_t *table, size_t table_len, uint64_t held,
                           uint64_t *card_unread, uint64_t answer[2]);
 
 /* Reports a finished job and the seconds that it took. answer: 0, 0. */
-uint64_t bay_report(const uint8_t *table, size_t table_len, uint8_t job, uint16_t seconds, uint64_t *card_held,
+uint64_t bay_report(const uint8_t *table, size_t table_len, size_t job, uint16_t seconds, uint64_t *card_held,
                     uint64_t *card_unread, uint16_t *card_reports, uint32_t *card_taken, uint32_t *card_planned, uint64_t answer[2]);
 
 /* Taken minus planned, in whole minutes, nearest, an exact half to the even one; of every card, sound or not. */

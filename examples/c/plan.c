@@ -112,7 +112,7 @@ int main(int count, char **words) {
         /* The fitter needs a tenth longer than listed. */
         uint64_t longer = job[4] + job[4] / 10;
         uint16_t seconds = longer > 65535 ? 65535 : (uint16_t)longer;
-        if (bay_report(table, table_len, (uint8_t)tick[2], seconds, &card.held, &card.unread, &card.reports, &card.taken,
+        if (bay_report(table, table_len, (size_t)tick[2], seconds, &card.held, &card.unread, &card.reports, &card.taken,
                        &card.planned, done) != 0) {
             return refused("report", done);
         }
@@ -128,7 +128,7 @@ int main(int count, char **words) {
         bay_read_job(table, table_len, (size_t)number, job);
         if ((job[1] & ~card.held) != 0) {
             uint16_t reports = card.reports;
-            bay_report(table, table_len, (uint8_t)number, 60, &card.held, &card.unread, &card.reports, &card.taken,
+            bay_report(table, table_len, (size_t)number, 60, &card.held, &card.unread, &card.reports, &card.taken,
                        &card.planned, done);
             printf("job %" PRIu64 " now: refused %" PRIu64 " %" PRIu64 ", %s\n", number, done[0], done[1],
                    reports == card.reports ? "card unchanged" : "card changed");

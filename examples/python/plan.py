@@ -45,12 +45,12 @@ class Bay:
         forms = {
             "bay_read_table": table + [answer],
             "bay_read_job": table + [c_size_t, answer],
-            "bay_write_table": [c_uint8] + [pointer, c_size_t] * 4 + [c_uint64, pointer, c_size_t, answer],
+            "bay_write_table": [c_size_t] + [pointer, c_size_t] * 4 + [c_uint64, pointer, c_size_t, answer],
             "bay_plan": table + masks + [pointer, c_size_t] * 5 + [answer],
             "bay_tick": table + [pointer, c_size_t] + masks + [answer],
             "bay_open": table + masks + card + [answer],
             "bay_read_outside": table + masks + card[:2] + [answer],
-            "bay_report": table + [c_uint8, c_uint16] + card + [answer],
+            "bay_report": table + [c_size_t, c_uint16] + card + [answer],
         }
         for name, arguments in forms.items():
             function = getattr(self.library, name)

@@ -131,7 +131,7 @@ pub extern "C" fn bay_read_outside(
 #[no_mangle]
 pub extern "C" fn bay_report(
     table: &[u8],
-    job: u8,
+    job: usize,
     seconds: u16,
     card_held: &mut u64,
     card_unread: &mut u64,

@@ -66,7 +66,7 @@ fn written_words(w: TableWritten) -> [u64; 2]
 
 #[no_mangle]
 pub extern "C" fn bay_write_table(
-    facts: u8,
+    facts: usize,
     needs: &[u64],
     adds: &[u64],
     deletes: &[u64],

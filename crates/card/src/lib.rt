@@ -32,7 +32,7 @@ pub struct Card {
 
 // A report of a finished job: its number, and the seconds that it took.
 pub struct JobReport {
-    pub job: u8,
+    pub job: usize,
     pub taken: u16,
 }
 
@@ -219,7 +219,7 @@ pub fn reported(card: Card, table: &[u8], report: JobReport) -> Step
         TableRead::Refused(x) => kept(card, x),
         TableRead::Sound(header) => {
             let jobs = header.jobs;
-            let job = report.job as usize;
+            let job = report.job;
             if job < jobs {
                 judge(card, table::job_at(table, job), report.taken)
             } else {

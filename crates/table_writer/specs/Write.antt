@@ -5,7 +5,7 @@ use Prim.Native.Nat.{ℕ}
 use mathlib.Core.Path.{_≡_}
 use mathlib.Core.Bool.{Bool, _&&_}
 use mathlib.Core.List.{List, _++_}
-use lib.Dec.{eqb, leb}
+use lib.Dec.{eqb, leb, ltb}
 use lib.ListN.{length, getD, drop}
 use Rattle.base.specs.Bools.{if_then_else_}
 use Rattle.base.specs.Lists.{prefix}
@@ -32,6 +32,10 @@ module _ (needs adds deletes seconds : List ℕ) where
 
   abbrev pub tableOf : ℕ → ℕ → Table
   tableOf facts goal = record { facts = facts; jobs = rows (length needs); goal = goal }
+
+-- the byte for a number of facts: one that no byte holds is out of range, as 0 is
+abbrev pub byteOf : ℕ → ℕ
+byteOf facts = if ltb facts 256 then facts else 0
 
 -- what comes of writing a table
 pub data Writing : Type 0 where

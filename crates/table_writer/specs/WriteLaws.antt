@@ -5,26 +5,28 @@ use native.Mathlib.Numerals.{add-one}
 use native.Mathlib.Decide.{decLt}
 use native.Mathlib.Omega.{arith}
 use mathlib.Core.Path.{_≡_, refl, sym, ap, _∙_}
-use mathlib.Core.Bool.{Bool, true, false, _&&_}
+use mathlib.Core.Bool.{Bool, true, false, _&&_, and-false}
 use mathlib.Core.List.{List, [], _∷_, _++_, append-assoc, append-nil}
-use borrow.Author.Tests.{eqb-true, le-leb, lt-leb}
-use lib.Dec.{T, eqb}
+use borrow.Author.Tests.{eqb-true, le-leb, lt-leb, lt-ltb, le-ltb}
+use lib.Dec.{T, eqb, leb}
 use lib.ListN.{length, getD, set, drop, length-append, drop-of-length-le, List·getD-eq-default}
 use lib.Seq.{sets, sets-eq, drop-cons}
-use Rattle.base.specs.Bools.{holds, is-true, and-left, and-right}
+use Rattle.base.specs.Bools.{if_then_else_, holds, is-true, and-left, and-right}
 use Rattle.base.specs.Lists.{length-prefix, getD-prefix}
 use Rattle.masks.specs.Sets.{within}
 use Rattle.refusal.specs.declared.Refusal.{Refusal}
 use Rattle.refusal.specs.Checked.{Checked, accepted, refused, refusedBy}
-use Rattle.commands.specs.Commands.{FACTS, JOB, GOAL, END-OF-TABLE}
+use Rattle.commands.specs.Commands.{FACTS, JOB, GOAL, END-OF-TABLE, widthOf}
 use Rattle.commands.specs.Numbers.{toBytes}
 use Rattle.commands.specs.NumberLaws.{sets-after, to-length}
 use Rattle.table.specs.declared.Job.{Job}
+use Rattle.table.specs.declared.Stage.the-variants.{First}
 use Rattle.table.specs.Table.{Table, maxJobs, noJob, jobBytes, jobsBytes, goalBytes, tableBytes}
-use Rattle.table.specs.Read.{factsInRange, judged}
+use Rattle.table.specs.Read.{factsInRange, judged, readTable}
+use Rattle.table.specs.ReadLaws.{table-no-facts}
 use Rattle.table.specs.Sound.{StorableJob, Storable, judgedFrom, judgedTable}
-use Rattle.table.specs.RoundTrip.{jobs-length, read-written, judged-table}
-use Rattle.table_writer.specs.Write.{even, rowAt, rows, tableOf, written, short, uneven, unsound, writing, lentAfter, writingOf, Wrote}
+use Rattle.table.specs.RoundTrip.{jobs-length, due-here, read-written, judged-table}
+use Rattle.table_writer.specs.Write.{even, rowAt, rows, tableOf, byteOf, Writing, written, short, uneven, unsound, writing, lentAfter, writingOf, Wrote}
 use Rattle.table_writer.specs.declared.TableWritten.{TableWritten}
 
 -- ---- even columns
@@ -227,3 +229,43 @@ pub columns-few : (needs adds deletes seconds : List ℕ) (facts goal : ℕ)
     → accepted (tableOf needs adds deletes seconds facts goal) ≡ judgedTable (tableOf needs adds deletes seconds facts goal) → length needs ≤ maxJobs
 columns-few needs adds deletes seconds facts goal e =
     omega (arith, judged-table (tableOf needs adds deletes seconds facts goal) _ (sym e) .1 .few, length-prefix (rowAt needs adds deletes seconds) (length needs))
+
+-- ---- a number of facts that no byte holds
+
+no-facts-read : (t : Table) → factsInRange (t .facts) ≡ false → readTable (tableBytes t) ≡ refused 3 0
+unfolding tableBytes widthOf
+no-facts-read t f =
+    sym (table-no-facts (tableBytes t) _ (due-here First (tableBytes t) (t .facts ∷ []) (jobsBytes (t .jobs) ++ goalBytes (t .goal)) 0 FACTS 1 refl refl refl refl) f)
+
+-- what comes of it, however many they are
+abbrev refusal-of : Bool → Writing
+refusal-of b = if b then unsound 3 0 else uneven
+
+no-facts-writing : (b : Bool) (t : Table) (room : ℕ) → factsInRange (t .facts) ≡ false → writing b t room ≡ refusal-of b
+unfolding writing
+no-facts-writing true t room f = rw (no-facts-read t f)
+no-facts-writing false t room f = refl
+
+-- a table that is refused for its number of facts leaves the slice, whatever that number is
+module _ (b : Bool) (js : List Job) (goal facts : ℕ) (l after : List ℕ) (r : TableWritten) where
+  abbrev counting : ℕ → Table
+  counting n = record { facts = n; jobs = js; goal = goal }
+
+  refused-alike : (n : ℕ) → factsInRange n ≡ false → factsInRange facts ≡ false → Wrote b (counting n) l after r → Wrote b (counting facts) l after r
+  refused-alike n f g w =
+      let old = no-facts-writing b (counting n) (length l) f in
+      let new = no-facts-writing b (counting facts) (length l) g in
+      record { answer = w .answer ∙ old ∙ sym new; lent = rw new (kept b (tableBytes (counting n)) (tableBytes (counting facts)) (rw old at (w .lent))) }
+    where
+      kept : (c : Bool) (bytes more : List ℕ) → after ≡ lentAfter (refusal-of c) bytes l → after ≡ lentAfter (refusal-of c) more l
+      kept true bytes more e = e
+      kept false bytes more e = e
+
+  pub wrote-counted : Wrote b (counting (byteOf facts)) l after r → Wrote b (counting facts) l after r
+  wrote-counted w =
+      elim (decLt facts 256) [
+        | yes h ↦ rw (lt-ltb facts 256 h) at w
+        | no h ↦
+            let over : 256 ≤ facts = omega arith in
+            refused-alike 0 refl (rw (lt-leb facts 64 (omega arith)) (and-false (leb 1 facts))) (rw (le-ltb facts 256 over) at w)
+      ]

@@ -10,7 +10,7 @@ ghost use lib.ListN.{length};
 ghost use lib.Seq.{sets};
 ghost use Rattle.table.specs.Table.{jobBytes, jobsBytes, goalBytes};
 ghost use Rattle.table.specs.Sound.{judgedTable};
-ghost use Rattle.table_writer.specs.Write.{even, rowAt, rows, tableOf, Wrote, judgedTableOf};
+ghost use Rattle.table_writer.specs.Write.{even, rowAt, rows, tableOf, byteOf, Wrote, judgedTableOf};
 
 // GOAL and END, with which every table closes.
 const CLOSING_SIZE: usize = commands::GOAL_SIZE + commands::END_OF_TABLE_SIZE;
@@ -133,8 +133,8 @@ fn put_goal(out: &mut [u8], at: usize, goal: u64)
     out[at + commands::GOAL_SIZE] = commands::END_OF_TABLE;
 }
 
-// Writes a table: any columns, any slice.
-pub fn write_table(
+// A table whose number of facts is a byte.
+fn write_counted(
     facts: u8,
     needs: &[u64],
     adds: &[u64],
@@ -165,4 +165,31 @@ pub fn write_table(
             TableWritten::Written(size)
         }
     }
+}
+
+// The byte that FACTS has for a number of facts. A number that no byte holds is refused as 0 is.
+fn byte_of(facts: usize) -> u8
+    ensures { λ r. ⌜ r ≡ byteOf facts ⌝ }
+{
+    if facts < 256 {
+        return facts as u8;
+    }
+    0
+}
+
+// Writes a table: any number of facts, any columns, any slice.
+pub fn write_table(
+    facts: usize,
+    needs: &[u64],
+    adds: &[u64],
+    deletes: &[u64],
+    seconds: &[u16],
+    goal: u64,
+    out: &mut [u8],
+) -> TableWritten
+    ensures { λ r. ⌜ Wrote (even (now (needs .entry)) (now (adds .entry)) (now (deletes .entry)) (now (seconds .entry)))
+        (tableOf (now (needs .entry)) (now (adds .entry)) (now (deletes .entry)) (now (seconds .entry)) facts goal)
+        (now (out .entry)) (now (out .exit)) r ⌝ }
+{
+    write_counted(byte_of(facts), needs, adds, deletes, seconds, goal, out)
 }

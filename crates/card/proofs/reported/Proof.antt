@@ -25,13 +25,10 @@ kept-requires c κs = search needs
 enum-known-header : tie.Need-enum-known-header
 enum-known-header c = search needs
 
-cast-job : tie.Need-cast-job
-cast-job c = search needs
-
 job-at-requires : tie.Need-job-at-requires
 job-at-requires c κs =
-    let e = rw (c .before .before .before .before .before .before .masks-of .ensures) at (c .before .before .before .before .before .table-for .ensures) in
-    let t = headed-sound (tableFor _ _) (ap answerOf (sym (c .before .before .before .header .given .1)) ∙ e) in
+    let e = rw (c .before .before .before .before .before .masks-of .ensures) at (c .before .before .before .before .table-for .ensures) in
+    let t = headed-sound (tableFor _ _) (ap answerOf (sym (c .before .before .header .given .1)) ∙ e) in
     rw (for-jobs _ _ (t .0) (t .1)) (omega (arith, ap (λ h. h .jobs) (t .2)))
 
 judge-requires : tie.Need-judge-requires
@@ -47,18 +44,18 @@ returns c =
 
 returns-2 : tie.Need-returns-2
 returns-2 c =
-    let m = c .before .before .before .before .before .before .before .before .masks-of .ensures in
-    let e = rw m at (c .before .before .before .before .before .before .before .table-for .ensures) in
-    let t = headed-sound (tableFor _ _) (ap answerOf (sym (c .before .before .before .before .before .header .given .1)) ∙ e) in
-    let a = c .before .before .before .before .before .before .before .before .before .before .args in
+    let m = c .before .before .before .before .before .before .before .masks-of .ensures in
+    let e = rw m at (c .before .before .before .before .before .before .table-for .ensures) in
+    let t = headed-sound (tableFor _ _) (ap answerOf (sym (c .before .before .before .before .header .given .1)) ∙ e) in
+    let a = c .before .before .before .before .before .before .before .before .before .args in
     let q = report-job _ (a .report) (a .card) (t .0) (t .1) (omega (arith, ap (λ h. h .jobs) (t .2))) in
     rw q at (rw (c .before .job-at .ensures) at (c .judge .ensures))
 
 returns-3 : tie.Need-returns-3
 returns-3 c =
-    let m = c .before .before .before .before .before .before .before .masks-of .ensures in
-    let e = rw m at (c .before .before .before .before .before .before .table-for .ensures) in
-    let t = headed-sound (tableFor _ _) (ap answerOf (sym (c .before .before .before .before .header .given .1)) ∙ e) in
+    let m = c .before .before .before .before .before .before .masks-of .ensures in
+    let e = rw m at (c .before .before .before .before .before .table-for .ensures) in
+    let t = headed-sound (tableFor _ _) (ap answerOf (sym (c .before .before .before .header .given .1)) ∙ e) in
     rw (c .refused .ensures) (updated-kept (report-no-job _ _ _ (t .0) (t .1) (omega (arith, ap (λ h. h .jobs) (t .2)))))
 
 pub reported-spec : {M : Type 1} → statement M
@@ -70,7 +67,6 @@ reported-spec =
     enum-known-x
     kept-requires
     enum-known-header
-    cast-job
     job-at-requires
     judge-requires
     refused-requires
