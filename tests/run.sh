@@ -1,6 +1,6 @@
 #!/bin/sh
-# The tests beside the proofs: the proved library and the program bayplan against an engine in Rust, and the examples. Run it from
-# anywhere, after `rt ci`. It needs cargo (no network), a C compiler, and python3 for one example.
+# The tests beside the proofs: the proved library and the program bayplan against an engine in Rust, the C header, and the examples. Run
+# it from anywhere, after `rt ci`. It needs cargo (no network) and a C compiler with binutils, and for some of it a C++ compiler and python3.
 # BAY_ARCHIVE names a library built elsewhere; BAY_SEED gives the random cases another seed.
 set -u
 cd "$(dirname "$0")/.." || exit 1
@@ -131,6 +131,38 @@ if [ -z "$compiler" ]; then
     bad "no C compiler is here"
     finish
 fi
+
+# ---- include/bay.h in C and in C++
+
+# header LANGUAGE COMPILER..: the inline functions of the header, compiled so and run.
+header() {
+    language=$1
+    shift
+    if "$@" -Wall -Wextra -Werror -pedantic -O1 -Iinclude tests/header.c -x none "$archive" -o "$work/header"; then
+        ok "include/bay.h is compiled as $language"
+        "$work/header" >"$work/printed" 2>&1
+        status=$?
+        cat "$work/printed"
+        counted "tests/header.c in $language" "$work/printed" $status
+    else
+        bad "include/bay.h is compiled as $language"
+    fi
+}
+
+header C99 $compiler -x c -std=c99
+plus=
+for each in g++ c++; do
+    if [ -z "$plus" ] && command -v $each >/dev/null 2>&1; then
+        plus=$each
+    fi
+done
+if [ -n "$plus" ]; then
+    header C++11 $plus -x c++ -std=c++11
+else
+    echo "no C++ compiler is here: the header is not tried in C++"
+fi
+
+# ---- the examples in C and Python
 
 for program in plan shift stack; do
     if $compiler -std=c99 -Wall -Wextra -Werror -O1 -Iinclude examples/c/$program.c "$archive" -o "$work/$program"; then

@@ -8,3 +8,5 @@ pub mod trailer;
 mod edit_tests;
 #[cfg(test)]
 mod engine_tests;
+#[cfg(test)]
+mod header_tests;
