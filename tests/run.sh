@@ -187,11 +187,15 @@ if command -v python3 >/dev/null 2>&1; then
         ok "a shared object of the library"
         python3 -B examples/python/plan.py "$work/libbay.so" >"$work/printed" 2>&1
         same "examples/python/plan.py" examples/python/expected_plan.txt "$work/printed"
+        python3 -B examples/python/test_bay.py "$work/libbay.so" >"$work/printed" 2>&1
+        status=$?
+        cat "$work/printed"
+        counted examples/python/test_bay.py "$work/printed" $status
     else
         bad "a shared object of the library"
     fi
 else
-    echo "python3 is not here: its example is not run"
+    echo "python3 is not here: its module and its example are not run"
 fi
 
 finish
