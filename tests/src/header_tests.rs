@@ -4,7 +4,7 @@ use std::collections::BTreeMap;
 use std::fs;
 use std::path::Path;
 
-fn file(name: &str) -> String {
+pub fn file(name: &str) -> String {
     let path = Path::new(env!("CARGO_MANIFEST_DIR")).join("..").join(name);
     fs::read_to_string(&path).unwrap_or_else(|error| panic!("{}: {error}", path.display()))
 }
@@ -35,18 +35,22 @@ fn numbered(text: &str, separator: &str, name_of: impl Fn(&str) -> Option<String
     names
 }
 
-#[test]
-fn every_refusal_has_its_name_in_the_header() {
-    let reasons =
-        numbered(&file("crates/refusal/src/lib.rt"), " => ", |name| name.strip_prefix("Reason::").map(header_name));
+/// The refusals that the header names, without the two that are the table writer's own.
+pub fn refusals() -> BTreeMap<u64, String> {
     let header = file("include/bay.h");
     let (_, after) = header.split_once("enum bay_refusal {").expect("the header has the enum");
     let (list, _) = after.split_once("};").expect("the enum ends");
     let mut names = numbered(list, " = ", |name| Some(name.to_string()));
     assert_eq!(names.remove(&0).as_deref(), Some("BAY_OK"));
-    // The table writer's own two.
     assert_eq!(names.remove(&100).as_deref(), Some("BAY_TOO_SHORT"));
     assert_eq!(names.remove(&101).as_deref(), Some("BAY_UNEVEN"));
-    assert_eq!(names, reasons);
+    names
+}
+
+#[test]
+fn every_refusal_has_its_name_in_the_header() {
+    let reasons =
+        numbered(&file("crates/refusal/src/lib.rt"), " => ", |name| name.strip_prefix("Reason::").map(header_name));
+    assert_eq!(refusals(), reasons);
     assert!(reasons.len() >= 19);
 }

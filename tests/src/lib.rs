@@ -9,4 +9,6 @@ mod edit_tests;
 #[cfg(test)]
 mod engine_tests;
 #[cfg(test)]
+mod formats_tests;
+#[cfg(test)]
 mod header_tests;
