@@ -1,6 +1,6 @@
 #!/bin/sh
 # Counts instructions of one call with valgrind, for the library and for each counterpart: run from the repository's root after
-# `rt staticlib bay`. It takes some minutes. The count without the last call is taken away, which leaves out what comes before.
+# `tools/library.sh`. It takes some minutes. The count without the last call is taken away, which leaves out what comes before.
 set -eu
 cd "$(dirname "$0")"
 if ! command -v valgrind >/dev/null 2>&1; then

@@ -1,31 +1,25 @@
-/* The bay planner: a C interface to the proved library.
+/* The bay planner: a C interface to the proved library. C99 and C++11.
  *
- * Build:  rt staticlib bay        gives target/staticlib/libbay.a (x86-64 Linux)
+ * Build:  tools/library.sh        gives target/staticlib/libbay.a (x86-64 Linux)
  * Link:   cc program.c -Iinclude target/staticlib/libbay.a
  *
- * Every function takes every input, checks all of it, and returns. It needs no memory but what it is lent and a small stack.
+ * Every function takes every input, checks all of it, and returns. It needs no memory but what it is lent, and less stack than
+ * BAY_STACK_BYTES.
+ *
+ * Two layers.
+ *   Words: the functions that have an `answer` are the proved ones. Each returns the answer's first word: 0, or the number of a
+ *     refusal. `answer` is written whole in every case: 0 and the values; of a refusal its number, its place, and 0 in every further
+ *     word.
+ *   Names: below each stands an inline function over it, bay_SUBJECT_VERB (bay_tree_plan over bay_plan, bay_card_open over bay_open),
+ *     which lends the answer and gives its words names. Its result is a struct: `refusal` (BAY_OK, or why), `place` (0 unless refused),
+ *     then the values, all 0 where the call was refused. A table, a tree, a reading and a card come as structs.
  *
  * Lent buffers. A buffer is a pointer and a number of elements. The pointer is aligned for its type, and not null, also where the
  * number is 0. What one call is lent, `answer` and the parts of a card included, does not overlap, and nobody else writes to it
  * meanwhile. That, and that each pointer is good for its length, is all that is asked of the caller.
  *
- * Answers. Each function with an `answer` returns its first word: 0, or the number of a refusal (1 to 19, below). `answer` is
- * written whole in every case. Of a refusal answer[1] is the place, and the words after it are 0. A refused call writes to
- * nothing else that is lent, but for the list tables of bay_plan and bay_plan_shift after 10, 11 and 12.
- *
- *    1 the table ends where a command or operand is due     2 a table command is unknown or not allowed there
- *    3 the number of facts is outside 1 to 64               4 a 129th job stands in the table
- *    5 a table mask has a bit at or above F                 6 a job's adds share a fact with its deletes or its needs
- *    7 bytes follow the table's END                         8 a reading, or the card's masks, share a fact or have a bit at or above F
- *    9 a start for planning has an unread fact             10 the list is full
- *   11 no way: no sequence of jobs leads to the goal       12 the lent tree is too short
- *   13 a tree is overlong, cut or malformed                14 a tree node is deeper than 16
- *   15 a tree mask has a bit at or above F, or a job number is not below the job count
- *   16 a report names no job of the table                  17 a need of the reported job is unread or absent
- *   18 the card has 65,535 reports, its taken sum exceeds 65,535 times its count, or its planned sum 5,400 times its count
- *   19 a job is listed with more than 5,400 seconds; in each job it is judged after 6
- *
- * The place is the faulty command's offset for 1 to 7, 13 to 15 and 19, the number of entries stored for 10 to 12, else 0.
+ * A refused call writes to nothing that it is lent but `answer`. One exception: after 10, 11 and 12 of a plan the list tables hold the
+ * entries stored.
  */
 #ifndef BAY_H
 #define BAY_H
@@ -37,30 +31,183 @@
 extern "C" {
 #endif
 
-/* The most entries that a plan lists, the bytes of the largest tree that a tick takes, the action stored for entry 0, and the most
- * seconds that a table lists a job with. */
-#define BAY_MAX_ENTRIES 4096
-#define BAY_MAX_TREE_BYTES 65535
-#define BAY_NO_JOB 255
-#define BAY_MAX_SECONDS 5400
+/* A stack of so many bytes is enough for every call (examples/c/stack.c tries the worst ones). */
+#define BAY_STACK_BYTES (256 * 1024)
+
+#define BAY_MAX_FACTS 64
+#define BAY_MAX_JOBS 128
+#define BAY_MAX_SECONDS 5400      /* that a table may list a job with */
+#define BAY_MAX_TABLE_BYTES 3468  /* of a sound table */
+#define BAY_MAX_ENTRIES 4096      /* that a plan lists */
+#define BAY_MAX_TREE_BYTES 65535  /* of a tree that is ticked */
+#define BAY_NO_JOB 255            /* the job of entry 0 */
+
+/* Why a call is refused. F is the table's number of facts. The calls check in the order of the numbers, but for 19, which a job is
+ * judged by after 6; of a table and of a tree whatever is wrong earlier in its bytes comes first.
+ *
+ * The place of a refusal is
+ *   - the offset of the faulty command for 1 to 7, 13 to 15 and 19; but where a command byte is missing (1, 13) the length of the
+ *     table or tree; where bytes follow END (7, 13) the first of them; and 0 for a tree of more than BAY_MAX_TREE_BYTES (13);
+ *   - the number of entries stored for 10 to 12;
+ *   - 0 for all others. */
+enum bay_refusal {
+    BAY_OK = 0,
+    BAY_TABLE_CUT = 1,                  /* the table ends where a command or operand is due */
+    BAY_COMMAND_NOT_ALLOWED = 2,        /* a table command is unknown or not allowed there */
+    BAY_FACT_COUNT_OUT_OF_RANGE = 3,    /* F is outside 1 to 64 */
+    BAY_TOO_MANY_JOBS = 4,              /* a 129th job stands in the table */
+    BAY_TABLE_MASK_OUT_OF_RANGE = 5,    /* a table mask has a bit at or above F */
+    BAY_EFFECTS_OVERLAP = 6,            /* a job's adds share a fact with its deletes or its needs */
+    BAY_BYTES_AFTER_TABLE = 7,          /* bytes follow the table's END */
+    BAY_BAD_READING = 8,                /* a reading, or the card's masks, share a fact or have a bit at or above F */
+    BAY_START_UNREAD = 9,               /* a start for planning has an unread fact */
+    BAY_LIST_FULL = 10,                 /* a condition to be stored would exceed the capacity */
+    BAY_NO_WAY = 11,                    /* no sequence of jobs leads from the start to the goal */
+    BAY_TREE_TOO_SHORT = 12,            /* the lent tree has no room for the list's tree */
+    BAY_BAD_TREE = 13,                  /* a tree is overlong, cut or malformed, or goes on after its END */
+    BAY_TREE_TOO_DEEP = 14,             /* a tree node is deeper than 16 */
+    BAY_TREE_OPERAND_OUT_OF_RANGE = 15, /* a tree mask has a bit at or above F, or a job number is not below the job count */
+    BAY_NO_SUCH_JOB = 16,               /* a number names no job of the table */
+    BAY_NEED_NOT_HELD = 17,             /* a need of the reported job is unread or absent */
+    BAY_CARD_EXHAUSTED = 18,            /* the card has 65,535 reports, its taken sum exceeds 65,535 times its count, or its planned
+                                           sum 5,400 times its count */
+    BAY_JOB_TOO_LONG = 19,              /* a job is listed with more than 5,400 seconds */
+
+    /* Of bay_write_table alone. */
+    BAY_TOO_SHORT = 100, /* the lent slice is shorter than the table */
+    BAY_UNEVEN = 101     /* the columns differ in length */
+};
+
+/* ---- what the inline functions take and give */
+
+struct bay_table {
+    const uint8_t *bytes;
+    size_t length;
+};
+
+/* The bytes of one tree and none past them. */
+struct bay_tree {
+    const uint8_t *bytes;
+    size_t length;
+};
+
+/* The facts held, and those that were not read. A fact in neither is read and absent. */
+struct bay_reading {
+    uint64_t held;
+    uint64_t unread;
+};
+
+/* Whether a call was done; every result begins so. */
+struct bay_done {
+    enum bay_refusal refusal;
+    size_t place;
+};
+
+/* The number and place of an answer, and the values of one that is no refusal. */
+static inline enum bay_refusal bay_answer_refusal(const uint64_t *answer) {
+    return (enum bay_refusal)answer[0];
+}
+
+static inline size_t bay_answer_place(const uint64_t *answer) {
+    return answer[0] == 0 ? 0 : (size_t)answer[1];
+}
+
+static inline uint64_t bay_answer_value(const uint64_t *answer, size_t word) {
+    return answer[0] == 0 ? answer[word] : 0;
+}
+
+static inline struct bay_done bay_answer_done(const uint64_t *answer) {
+    struct bay_done done;
+    done.refusal = bay_answer_refusal(answer);
+    done.place = bay_answer_place(answer);
+    return done;
+}
 
 /* ---- the table */
 
 /* Reads a table. answer: 0, the number of facts, the number of jobs, the goal. */
 uint64_t bay_read_table(const uint8_t *table, size_t table_len, uint64_t answer[4]);
 
+struct bay_header {
+    enum bay_refusal refusal;
+    size_t place;
+    size_t facts;
+    size_t jobs;
+    uint64_t goal;
+};
+
+static inline struct bay_header bay_table_read(struct bay_table table) {
+    uint64_t answer[4];
+    struct bay_header header;
+    bay_read_table(table.bytes, table.length, answer);
+    header.refusal = bay_answer_refusal(answer);
+    header.place = bay_answer_place(answer);
+    header.facts = (size_t)bay_answer_value(answer, 1);
+    header.jobs = (size_t)bay_answer_value(answer, 2);
+    header.goal = bay_answer_value(answer, 3);
+    return header;
+}
+
 /* Reads one job of a table by its number; 16 where the table has no such job. answer: 0, needs, adds, deletes, seconds. */
 uint64_t bay_read_job(const uint8_t *table, size_t table_len, size_t job, uint64_t answer[5]);
 
+struct bay_job {
+    enum bay_refusal refusal;
+    size_t place;
+    uint64_t needs;
+    uint64_t adds;
+    uint64_t deletes;
+    uint16_t seconds;
+};
+
+static inline struct bay_job bay_table_read_job(struct bay_table table, size_t number) {
+    uint64_t answer[5];
+    struct bay_job job;
+    bay_read_job(table.bytes, table.length, number, answer);
+    job.refusal = bay_answer_refusal(answer);
+    job.place = bay_answer_place(answer);
+    job.needs = bay_answer_value(answer, 1);
+    job.adds = bay_answer_value(answer, 2);
+    job.deletes = bay_answer_value(answer, 3);
+    job.seconds = (uint16_t)bay_answer_value(answer, 4);
+    return job;
+}
+
 /* Writes a table. Job i has its masks at i of needs, adds and deletes and its seconds at i of seconds.
- * answer: 0, the number of bytes written from the beginning of out. The refusals are those that reading the table would give.
+ * answer: 0, the number of bytes written from the beginning of out. The refusals are those that reading the table would give; a number
+ * of facts that no byte holds is 3 like any other outside 1 to 64.
  * Two more answers leave out untouched: BAY_UNEVEN with 0 where the four columns differ in length, before any other check, and
  * BAY_TOO_SHORT with the number of bytes that it needs, after all others. */
-#define BAY_TOO_SHORT 100
-#define BAY_UNEVEN 101
-uint64_t bay_write_table(uint8_t facts, const uint64_t *needs, size_t needs_len, const uint64_t *adds, size_t adds_len,
+uint64_t bay_write_table(size_t facts, const uint64_t *needs, size_t needs_len, const uint64_t *adds, size_t adds_len,
                          const uint64_t *deletes, size_t deletes_len, const uint16_t *seconds, size_t seconds_len,
                          uint64_t goal, uint8_t *out, size_t out_len, uint64_t answer[2]);
+
+/* The columns of so many jobs. */
+struct bay_columns {
+    const uint64_t *needs;
+    const uint64_t *adds;
+    const uint64_t *deletes;
+    const uint16_t *seconds;
+    size_t jobs;
+};
+
+struct bay_written {
+    enum bay_refusal refusal;
+    size_t place;
+    size_t bytes; /* written, or with BAY_TOO_SHORT wanted */
+};
+
+static inline struct bay_written bay_table_write(size_t facts, struct bay_columns columns, uint64_t goal, uint8_t *out,
+                                                 size_t out_length) {
+    uint64_t answer[2];
+    struct bay_written written;
+    bay_write_table(facts, columns.needs, columns.jobs, columns.adds, columns.jobs, columns.deletes, columns.jobs,
+                    columns.seconds, columns.jobs, goal, out, out_length, answer);
+    written.refusal = bay_answer_refusal(answer);
+    written.place = written.refusal == BAY_TOO_SHORT ? 0 : bay_answer_place(answer);
+    written.bytes = written.refusal == BAY_TOO_SHORT ? (size_t)answer[1] : (size_t)bay_answer_value(answer, 1);
+    return written;
+}
 
 /* ---- the plan */
 
@@ -73,6 +220,40 @@ uint64_t bay_plan(const uint8_t *table, size_t table_len, uint64_t held, uint64_
                   size_t conditions_len, uint8_t *jobs, size_t jobs_len, uint16_t *parents, size_t parents_len, uint16_t *depths,
                   size_t depths_len, uint8_t *tree, size_t tree_len, uint64_t answer[5]);
 
+/* What a plan is lent: four list tables of the same length, and the tree. */
+struct bay_plan_room {
+    uint64_t *conditions;
+    uint8_t *jobs;
+    uint16_t *parents;
+    uint16_t *depths;
+    size_t entries;
+    uint8_t *tree;
+    size_t tree_bytes;
+};
+
+struct bay_planned {
+    enum bay_refusal refusal;
+    size_t place;
+    size_t entries;
+    size_t tree_bytes;
+    size_t way_jobs;
+    uint32_t way_minutes;
+};
+
+static inline struct bay_planned bay_tree_plan(struct bay_table table, struct bay_reading start, struct bay_plan_room room) {
+    uint64_t answer[5];
+    struct bay_planned planned;
+    bay_plan(table.bytes, table.length, start.held, start.unread, room.conditions, room.entries, room.jobs, room.entries,
+             room.parents, room.entries, room.depths, room.entries, room.tree, room.tree_bytes, answer);
+    planned.refusal = bay_answer_refusal(answer);
+    planned.place = bay_answer_place(answer);
+    planned.entries = (size_t)bay_answer_value(answer, 1);
+    planned.tree_bytes = (size_t)bay_answer_value(answer, 2);
+    planned.way_jobs = (size_t)bay_answer_value(answer, 3);
+    planned.way_minutes = (uint32_t)bay_answer_value(answer, 4);
+    return planned;
+}
+
 /* Plans for the whole shift: no start ends the list, every entry is expanded, and one tree serves every vehicle. A state meets some
  * condition of it exactly when a sequence of jobs leads from the state to the goal. The list tables and the tree are lent and left
  * as for bay_plan; 8, 9 and 11 do not arise. answer: 0, entries, bytes of the tree. */
@@ -80,21 +261,63 @@ uint64_t bay_plan_shift(const uint8_t *table, size_t table_len, uint64_t *condit
                         size_t jobs_len, uint16_t *parents, size_t parents_len, uint16_t *depths, size_t depths_len, uint8_t *tree,
                         size_t tree_len, uint64_t answer[3]);
 
+struct bay_shift_planned {
+    enum bay_refusal refusal;
+    size_t place;
+    size_t entries;
+    size_t tree_bytes;
+};
+
+static inline struct bay_shift_planned bay_tree_plan_shift(struct bay_table table, struct bay_plan_room room) {
+    uint64_t answer[3];
+    struct bay_shift_planned planned;
+    bay_plan_shift(table.bytes, table.length, room.conditions, room.entries, room.jobs, room.entries, room.parents, room.entries,
+                   room.depths, room.entries, room.tree, room.tree_bytes, answer);
+    planned.refusal = bay_answer_refusal(answer);
+    planned.place = bay_answer_place(answer);
+    planned.entries = (size_t)bay_answer_value(answer, 1);
+    planned.tree_bytes = (size_t)bay_answer_value(answer, 2);
+    return planned;
+}
+
 /* ---- the tick */
 
-#define BAY_SUCCESS 0
-#define BAY_FAILURE 1
-#define BAY_RUNNING 2   /* with the number of the job to do next */
-#define BAY_UNSETTLED 3 /* with the mask of the facts to read first */
+enum bay_status {
+    BAY_SUCCESS = 0,
+    BAY_FAILURE = 1,
+    BAY_RUNNING = 2,    /* with the number of the job to do next */
+    BAY_UNSETTLED = 3,  /* with the mask of the facts to read first */
+    BAY_NO_STATUS = 255 /* in the result of a refused tick; no word of an answer is this */
+};
 
-/* Ticks a tree on a reading. Give it the bytes of one tree and none past them. answer: 0, one of the four above, the job or mask
+/* Ticks a tree on a reading. Give it the bytes of one tree and none past them. answer: 0, a status of the first four, the job or mask
  * (0 where there is none). */
 uint64_t bay_tick(const uint8_t *table, size_t table_len, const uint8_t *tree, size_t tree_len, uint64_t held, uint64_t unread,
                   uint64_t answer[3]);
 
+struct bay_ticked {
+    enum bay_refusal refusal;
+    size_t place;
+    enum bay_status status;
+    size_t job;        /* of BAY_RUNNING, else BAY_NO_JOB */
+    uint64_t to_read;  /* of BAY_UNSETTLED, else 0 */
+};
+
+static inline struct bay_ticked bay_tree_tick(struct bay_table table, struct bay_tree tree, struct bay_reading reading) {
+    uint64_t answer[3];
+    struct bay_ticked ticked;
+    bay_tick(table.bytes, table.length, tree.bytes, tree.length, reading.held, reading.unread, answer);
+    ticked.refusal = bay_answer_refusal(answer);
+    ticked.place = bay_answer_place(answer);
+    ticked.status = ticked.refusal == BAY_OK ? (enum bay_status)answer[1] : BAY_NO_STATUS;
+    ticked.job = ticked.status == BAY_RUNNING ? (size_t)answer[2] : BAY_NO_JOB;
+    ticked.to_read = ticked.status == BAY_UNSETTLED ? answer[2] : 0;
+    return ticked;
+}
+
 /* ---- the job card */
 
-/* A card is kept by the caller; the functions take the addresses of its members. */
+/* A card is kept by the caller; the functions of words take the addresses of its members. */
 struct bay_card {
     uint64_t held;
     uint64_t unread;
@@ -107,18 +330,48 @@ struct bay_card {
 uint64_t bay_open(const uint8_t *table, size_t table_len, uint64_t held, uint64_t unread, uint64_t *card_held,
                   uint64_t *card_unread, uint16_t *card_reports, uint32_t *card_taken, uint32_t *card_planned, uint64_t answer[2]);
 
+static inline struct bay_done bay_card_open(struct bay_card *card, struct bay_table table, struct bay_reading reading) {
+    uint64_t answer[2];
+    bay_open(table.bytes, table.length, reading.held, reading.unread, &card->held, &card->unread, &card->reports, &card->taken,
+             &card->planned, answer);
+    return bay_answer_done(answer);
+}
+
 /* Replaces the card's masks by an outside reading. answer: 0, 0. */
 uint64_t bay_read_outside(const uint8_t *table, size_t table_len, uint64_t held, uint64_t unread, uint64_t *card_held,
                           uint64_t *card_unread, uint64_t answer[2]);
 
-/* Reports a finished job and the seconds that it took. answer: 0, 0. */
-uint64_t bay_report(const uint8_t *table, size_t table_len, uint8_t job, uint16_t seconds, uint64_t *card_held,
+static inline struct bay_done bay_card_read_outside(struct bay_card *card, struct bay_table table, struct bay_reading reading) {
+    uint64_t answer[2];
+    bay_read_outside(table.bytes, table.length, reading.held, reading.unread, &card->held, &card->unread, answer);
+    return bay_answer_done(answer);
+}
+
+/* Reports a finished job and the seconds that it took. A number that names no job is 16. answer: 0, 0. */
+uint64_t bay_report(const uint8_t *table, size_t table_len, size_t job, uint16_t seconds, uint64_t *card_held,
                     uint64_t *card_unread, uint16_t *card_reports, uint32_t *card_taken, uint32_t *card_planned, uint64_t answer[2]);
+
+static inline struct bay_done bay_card_report(struct bay_card *card, struct bay_table table, size_t job, uint16_t seconds) {
+    uint64_t answer[2];
+    bay_report(table.bytes, table.length, job, seconds, &card->held, &card->unread, &card->reports, &card->taken, &card->planned,
+               answer);
+    return bay_answer_done(answer);
+}
 
 /* Taken minus planned, in whole minutes, nearest, an exact half to the even one; of every card, sound or not. */
 int64_t bay_lateness(uint32_t card_taken, uint32_t card_planned);
 
-/* A tick by card is bay_tick with the card's masks. */
+static inline int64_t bay_card_lateness(const struct bay_card *card) {
+    return bay_lateness(card->taken, card->planned);
+}
+
+/* A tick on the card's masks, which are judged by 8; its counts are not judged. */
+static inline struct bay_ticked bay_card_tick(const struct bay_card *card, struct bay_table table, struct bay_tree tree) {
+    struct bay_reading reading;
+    reading.held = card->held;
+    reading.unread = card->unread;
+    return bay_tree_tick(table, tree, reading);
+}
 
 #ifdef __cplusplus
 }

@@ -1,4 +1,4 @@
-//! Links the proved library to `compare`, the one program here that calls it.
+//! Links the proved library to the programs here that call it.
 use std::path::Path;
 
 fn main() {
@@ -10,5 +10,7 @@ fn main() {
     };
     println!("cargo:rerun-if-env-changed=BAY_ARCHIVE");
     println!("cargo:rerun-if-changed={}", archive.display());
-    println!("cargo:rustc-link-arg-bin=compare={}", archive.display());
+    for program in ["compare", "digests"] {
+        println!("cargo:rustc-link-arg-bin={program}={}", archive.display());
+    }
 }

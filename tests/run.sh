@@ -1,6 +1,6 @@
 #!/bin/sh
-# The tests beside the proofs: the proved library and the program bayplan against an engine in Rust, and the examples. Run it from
-# anywhere, after `rt ci`. It needs cargo (no network), a C compiler, and python3 for one example.
+# The tests beside the proofs: the proved library and the program bayplan against an engine in Rust, the C header, and the examples. Run
+# it from anywhere, after `rt ci`. It needs cargo (no network) and a C compiler with binutils, and for some of it a C++ compiler and python3.
 # BAY_ARCHIVE names a library built elsewhere; BAY_SEED gives the random cases another seed.
 set -u
 cd "$(dirname "$0")/.." || exit 1
@@ -57,11 +57,11 @@ if [ -n "${BAY_ARCHIVE:-}" ]; then
     archive=$BAY_ARCHIVE
 else
     archive=$root/target/staticlib/libbay.a
-    if rt staticlib bay >"$work/staticlib" 2>&1; then
-        ok "rt staticlib bay"
+    if tools/library.sh >"$work/library" 2>&1; then
+        ok "tools/library.sh"
     else
-        tail -5 "$work/staticlib"
-        bad "rt staticlib bay"
+        tail -5 "$work/library"
+        bad "tools/library.sh"
         finish
     fi
 fi
@@ -100,6 +100,10 @@ if [ -x "$bayplan" ]; then
     status=$?
     cat "$work/bayplan"
     counted bayplan_compare "$work/bayplan" $status
+    "$programs/digests" tests/digests.txt "$bayplan" "$work/folder" >"$work/digests" 2>&1
+    status=$?
+    cat "$work/digests"
+    counted digests "$work/digests" $status
 else
     bad "target/bin/bayplan is not there"
 fi
@@ -128,6 +132,38 @@ if [ -z "$compiler" ]; then
     finish
 fi
 
+# ---- include/bay.h in C and in C++
+
+# header LANGUAGE COMPILER..: the inline functions of the header, compiled so and run.
+header() {
+    language=$1
+    shift
+    if "$@" -Wall -Wextra -Werror -pedantic -O1 -Iinclude tests/header.c -x none "$archive" -o "$work/header"; then
+        ok "include/bay.h is compiled as $language"
+        "$work/header" >"$work/printed" 2>&1
+        status=$?
+        cat "$work/printed"
+        counted "tests/header.c in $language" "$work/printed" $status
+    else
+        bad "include/bay.h is compiled as $language"
+    fi
+}
+
+header C99 $compiler -x c -std=c99
+plus=
+for each in g++ c++; do
+    if [ -z "$plus" ] && command -v $each >/dev/null 2>&1; then
+        plus=$each
+    fi
+done
+if [ -n "$plus" ]; then
+    header C++11 $plus -x c++ -std=c++11
+else
+    echo "no C++ compiler is here: the header is not tried in C++"
+fi
+
+# ---- the examples in C and Python
+
 for program in plan shift stack; do
     if $compiler -std=c99 -Wall -Wextra -Werror -O1 -Iinclude examples/c/$program.c "$archive" -o "$work/$program"; then
         ok "examples/c/$program.c is compiled"
@@ -151,11 +187,15 @@ if command -v python3 >/dev/null 2>&1; then
         ok "a shared object of the library"
         python3 -B examples/python/plan.py "$work/libbay.so" >"$work/printed" 2>&1
         same "examples/python/plan.py" examples/python/expected_plan.txt "$work/printed"
+        python3 -B examples/python/test_bay.py "$work/libbay.so" >"$work/printed" 2>&1
+        status=$?
+        cat "$work/printed"
+        counted examples/python/test_bay.py "$work/printed" $status
     else
         bad "a shared object of the library"
     fi
 else
-    echo "python3 is not here: its example is not run"
+    echo "python3 is not here: its module and its example are not run"
 fi
 
 finish

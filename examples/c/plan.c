@@ -7,7 +7,6 @@
  */
 #include <inttypes.h>
 #include <stdio.h>
-#include <string.h>
 
 #include "bay.h"
 
@@ -27,12 +26,12 @@ static const uint8_t trailer_table[147] = {
     /* goal, end */
     0x30, 0x10, 0, 0, 0, 0, 0, 0, 0, 0x3f};
 
-static uint8_t table[65536];
+static uint8_t file_table[65536];
 static uint64_t conditions[BAY_MAX_ENTRIES];
 static uint8_t jobs[BAY_MAX_ENTRIES];
 static uint16_t parents[BAY_MAX_ENTRIES];
 static uint16_t depths[BAY_MAX_ENTRIES];
-static uint8_t tree[BAY_MAX_TREE_BYTES];
+static uint8_t tree_bytes[BAY_MAX_TREE_BYTES];
 
 /* The bytes of a file, at most `most`; a file that cannot be opened counts as empty. */
 static size_t read_file(const char *name, uint8_t *bytes, size_t most) {
@@ -53,84 +52,83 @@ static uint64_t mask_at(const uint8_t *bytes) {
     return mask;
 }
 
-static int refused(const char *call, const uint64_t *answer) {
-    printf("%s: refused %" PRIu64 " %" PRIu64 "\n", call, answer[0], answer[1]);
+static int refused(const char *call, enum bay_refusal refusal, size_t place) {
+    printf("%s: refused %d %zu\n", call, (int)refusal, place);
     return 1;
 }
 
 int main(int count, char **words) {
-    uint64_t held = 0x02, unread = 0;
-    size_t table_len = sizeof trailer_table;
-    memcpy(table, trailer_table, sizeof trailer_table);
+    struct bay_table table = {trailer_table, sizeof trailer_table};
+    struct bay_reading start = {0x02, 0};
     if (count == 3) {
-        uint8_t start[17];
-        table_len = read_file(words[1], table, sizeof table);
-        if (read_file(words[2], start, sizeof start) != 16) {
+        uint8_t start_bytes[17];
+        table.bytes = file_table;
+        table.length = read_file(words[1], file_table, sizeof file_table);
+        if (read_file(words[2], start_bytes, sizeof start_bytes) != 16) {
             printf("%s does not have 16 bytes\n", words[2]);
             return 1;
         }
-        held = mask_at(start);
-        unread = mask_at(start + 8);
+        start.held = mask_at(start_bytes);
+        start.unread = mask_at(start_bytes + 8);
     } else if (count != 1) {
         fprintf(stderr, "plan [BAY.TAB START.BAY]\n");
         return 2;
     }
 
-    uint64_t read[4];
-    if (bay_read_table(table, table_len, read) != 0) {
-        return refused("table", read);
+    struct bay_header header = bay_table_read(table);
+    if (header.refusal != BAY_OK) {
+        return refused("table", header.refusal, header.place);
     }
-    printf("table: %" PRIu64 " facts, %" PRIu64 " jobs, goal %016" PRIx64 "\n", read[1], read[2], read[3]);
+    printf("table: %zu facts, %zu jobs, goal %016" PRIx64 "\n", header.facts, header.jobs, header.goal);
 
-    uint64_t plan[5];
-    if (bay_plan(table, table_len, held, unread, conditions, BAY_MAX_ENTRIES, jobs, BAY_MAX_ENTRIES, parents, BAY_MAX_ENTRIES,
-                 depths, BAY_MAX_ENTRIES, tree, sizeof tree, plan) != 0) {
-        return refused("plan", plan);
+    struct bay_plan_room room = {conditions, jobs, parents, depths, BAY_MAX_ENTRIES, tree_bytes, sizeof tree_bytes};
+    struct bay_planned plan = bay_tree_plan(table, start, room);
+    if (plan.refusal != BAY_OK) {
+        return refused("plan", plan.refusal, plan.place);
     }
-    size_t tree_len = (size_t)plan[2];
-    printf("plan: %" PRIu64 " entries, %" PRIu64 " tree bytes, %" PRIu64 " jobs, %" PRIu64 " minutes\n", plan[1], plan[2],
-           plan[3], plan[4]);
+    struct bay_tree tree = {tree_bytes, plan.tree_bytes};
+    printf("plan: %zu entries, %zu tree bytes, %zu jobs, %" PRIu32 " minutes\n", plan.entries, plan.tree_bytes, plan.way_jobs,
+           plan.way_minutes);
 
     struct bay_card card;
-    uint64_t done[2];
-    if (bay_open(table, table_len, held, unread, &card.held, &card.unread, &card.reports, &card.taken, &card.planned, done) != 0) {
-        return refused("open", done);
+    struct bay_done done = bay_card_open(&card, table, start);
+    if (done.refusal != BAY_OK) {
+        return refused("open", done.refusal, done.place);
     }
     for (;;) {
-        uint64_t tick[3], job[5];
-        if (bay_tick(table, table_len, tree, tree_len, card.held, card.unread, tick) != 0) {
-            return refused("tick", tick);
+        struct bay_ticked tick = bay_card_tick(&card, table, tree);
+        if (tick.refusal != BAY_OK) {
+            return refused("tick", tick.refusal, tick.place);
         }
-        if (tick[1] != BAY_RUNNING) {
-            const char *names[] = {"the goal is reached", "this vehicle is not covered", "", "facts are to be read first"};
-            printf("tick: %s\n", names[tick[1]]);
+        if (tick.status != BAY_RUNNING) {
+            printf("tick: %s\n", tick.status == BAY_SUCCESS   ? "the goal is reached"
+                                 : tick.status == BAY_FAILURE ? "this vehicle is not covered"
+                                                              : "facts are to be read first");
             break;
         }
-        if (bay_read_job(table, table_len, (size_t)tick[2], job) != 0) {
-            return refused("job", job);
+        struct bay_job job = bay_table_read_job(table, tick.job);
+        if (job.refusal != BAY_OK) {
+            return refused("job", job.refusal, job.place);
         }
         /* The fitter needs a tenth longer than listed. */
-        uint64_t longer = job[4] + job[4] / 10;
-        uint16_t seconds = longer > 65535 ? 65535 : (uint16_t)longer;
-        if (bay_report(table, table_len, (uint8_t)tick[2], seconds, &card.held, &card.unread, &card.reports, &card.taken,
-                       &card.planned, done) != 0) {
-            return refused("report", done);
+        uint16_t seconds = (uint16_t)(job.seconds + job.seconds / 10);
+        done = bay_card_report(&card, table, tick.job, seconds);
+        if (done.refusal != BAY_OK) {
+            return refused("report", done.refusal, done.place);
         }
-        printf("job %" PRIu64 ": listed %" PRIu64 " seconds, taken %u, held %016" PRIx64 "\n", tick[2], job[4],
-               (unsigned)seconds, card.held);
+        printf("job %zu: listed %u seconds, taken %u, held %016" PRIx64 "\n", tick.job, (unsigned)job.seconds, (unsigned)seconds,
+               card.held);
     }
     printf("card: %u reports, taken %" PRIu32 ", planned %" PRIu32 ", late by %" PRId64 " minutes\n", (unsigned)card.reports,
-           card.taken, card.planned, bay_lateness(card.taken, card.planned));
+           card.taken, card.planned, bay_card_lateness(&card));
 
     /* A job whose needs are not held is refused, and the card stays as it was. */
-    for (uint64_t number = 0; number < read[2]; number++) {
-        uint64_t job[5];
-        bay_read_job(table, table_len, (size_t)number, job);
-        if ((job[1] & ~card.held) != 0) {
+    for (size_t number = 0; number < header.jobs; number++) {
+        struct bay_job job = bay_table_read_job(table, number);
+        if ((job.needs & ~card.held) != 0) {
             uint16_t reports = card.reports;
-            bay_report(table, table_len, (uint8_t)number, 60, &card.held, &card.unread, &card.reports, &card.taken,
-                       &card.planned, done);
-            printf("job %" PRIu64 " now: refused %" PRIu64 " %" PRIu64 ", %s\n", number, done[0], done[1],
+            done = bay_card_report(&card, table, number, 60);
+            printf("job %zu now: refused %d %zu, %s\n", number, (int)done.refusal, done.place,
                    reports == card.reports ? "card unchanged" : "card changed");
             break;
         }

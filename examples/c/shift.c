@@ -10,35 +10,37 @@
 
 #include "bay.h"
 
-static uint8_t table[65536];
+static uint8_t table_bytes[65536];
 static uint64_t conditions[BAY_MAX_ENTRIES];
 static uint8_t jobs[BAY_MAX_ENTRIES];
 static uint16_t parents[BAY_MAX_ENTRIES];
 static uint16_t depths[BAY_MAX_ENTRIES];
-static uint8_t tree[BAY_MAX_TREE_BYTES];
+static uint8_t tree_bytes[BAY_MAX_TREE_BYTES];
 
-static int refused(const char *call, const uint64_t *answer) {
-    printf("%s: refused %" PRIu64 " %" PRIu64 "\n", call, answer[0], answer[1]);
+static int refused(const char *call, enum bay_refusal refusal, size_t place) {
+    printf("%s: refused %d %zu\n", call, (int)refusal, place);
     return 1;
 }
 
 /* The jobs that ticks of the shift's tree name for one vehicle, each done in turn. */
-static int follow(size_t table_len, size_t tree_len, uint64_t held) {
+static int follow(struct bay_table table, struct bay_tree tree, uint64_t held) {
     printf("vehicle %016" PRIx64 ":", held);
     for (;;) {
-        uint64_t tick[3], job[5];
-        if (bay_tick(table, table_len, tree, tree_len, held, 0, tick) != 0) {
-            return refused(" tick", tick);
+        struct bay_reading reading = {held, 0};
+        struct bay_ticked tick = bay_tree_tick(table, tree, reading);
+        if (tick.refusal != BAY_OK) {
+            return refused(" tick", tick.refusal, tick.place);
         }
-        if (tick[1] != BAY_RUNNING) {
-            printf(" %s\n", tick[1] == BAY_SUCCESS ? "goal" : "no way");
+        if (tick.status != BAY_RUNNING) {
+            printf(" %s\n", tick.status == BAY_SUCCESS ? "goal" : "no way");
             return 0;
         }
-        if (bay_read_job(table, table_len, (size_t)tick[2], job) != 0) {
-            return refused(" job", job);
+        struct bay_job job = bay_table_read_job(table, tick.job);
+        if (job.refusal != BAY_OK) {
+            return refused(" job", job.refusal, job.place);
         }
-        printf(" %" PRIu64, tick[2]);
-        held = (held | job[2]) & ~job[3];
+        printf(" %zu", tick.job);
+        held = (held | job.adds) & ~job.deletes;
     }
 }
 
@@ -52,15 +54,16 @@ int main(int count, char **words) {
         perror(words[1]);
         return 1;
     }
-    size_t table_len = fread(table, 1, sizeof table, file);
+    struct bay_table table = {table_bytes, fread(table_bytes, 1, sizeof table_bytes, file)};
     fclose(file);
 
-    uint64_t shift[3];
-    if (bay_plan_shift(table, table_len, conditions, BAY_MAX_ENTRIES, jobs, BAY_MAX_ENTRIES, parents, BAY_MAX_ENTRIES, depths,
-                       BAY_MAX_ENTRIES, tree, sizeof tree, shift) != 0) {
-        return refused("shift", shift);
+    struct bay_plan_room room = {conditions, jobs, parents, depths, BAY_MAX_ENTRIES, tree_bytes, sizeof tree_bytes};
+    struct bay_shift_planned shift = bay_tree_plan_shift(table, room);
+    if (shift.refusal != BAY_OK) {
+        return refused("shift", shift.refusal, shift.place);
     }
-    printf("shift: %" PRIu64 " entries, %" PRIu64 " tree bytes\n", shift[1], shift[2]);
+    printf("shift: %zu entries, %zu tree bytes\n", shift.entries, shift.tree_bytes);
+    struct bay_tree tree = {tree_bytes, shift.tree_bytes};
     for (int i = 2; i < count; i++) {
         char *end;
         uint64_t held = strtoull(words[i], &end, 16);
@@ -68,7 +71,7 @@ int main(int count, char **words) {
             printf("%s is not a hexadecimal number\n", words[i]);
             return 1;
         }
-        if (follow(table_len, (size_t)shift[2], held) != 0) {
+        if (follow(table, tree, held) != 0) {
             return 1;
         }
     }

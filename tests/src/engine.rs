@@ -238,8 +238,9 @@ pub enum Unwritten {
     TooShort(usize),
 }
 
-/// Writes a table that can be read back, and gives the number of its bytes. Anything else leaves `out` as it was.
-pub fn write_table(facts: u8, columns: &Columns, goal: u64, out: &mut [u8]) -> Result<usize, Unwritten> {
+/// Writes a table that can be read back, and gives the number of its bytes. Anything else leaves `out` as it was. A number of facts that no
+/// byte holds is out of range (3) like any other.
+pub fn write_table(facts: usize, columns: &Columns, goal: u64, out: &mut [u8]) -> Result<usize, Unwritten> {
     let count = columns.needs.len();
     if [columns.adds.len(), columns.deletes.len(), columns.seconds.len()] != [count; 3] {
         return Err(Unwritten::Uneven);
@@ -252,6 +253,9 @@ pub fn write_table(facts: u8, columns: &Columns, goal: u64, out: &mut [u8]) -> R
             seconds: columns.seconds[i],
         })
         .collect();
+    let Ok(facts) = u8::try_from(facts) else {
+        return Err(Unwritten::Refused(Refusal { number: 3, place: 0 }));
+    };
     let bytes = table_bytes(facts, &jobs, goal);
     read_table(&bytes).map_err(Unwritten::Refused)?;
     if out.len() < bytes.len() {
@@ -386,7 +390,7 @@ pub fn minutes(seconds: i64) -> i64 {
 }
 
 /// The five slices that a plan is lent.
-#[derive(Clone, Debug, PartialEq, Eq)]
+#[derive(Clone, Debug, Default, PartialEq, Eq)]
 pub struct Lent {
     pub conditions: Vec<u64>,
     pub jobs: Vec<u8>,
@@ -641,10 +645,10 @@ pub fn read_outside(table: &[u8], held: u64, unread: u64, card: &mut Card) -> Re
 }
 
 /// Reports a finished job, stops 8 and 16 to 18 of the card.
-pub fn report(table: &[u8], number: u8, seconds: u16, card: &mut Card) -> Result<(), Refusal> {
+pub fn report(table: &[u8], number: usize, seconds: u16, card: &mut Card) -> Result<(), Refusal> {
     let table = read_table(table)?;
     judge_reading(&table, card.held, card.unread)?;
-    let Some(job) = table.jobs.get(usize::from(number)) else {
+    let Some(job) = table.jobs.get(number) else {
         return refuse(16, 0);
     };
     if !job.is_applicable(card.held) {

@@ -186,11 +186,13 @@ fn stops_of_the_tree() {
 #[test]
 fn stops_of_a_report_come_in_order() {
     let table = trailer::table();
-    let number = |card: Card, job: u8| report(&table, job, 1, &mut { card }).map_err(|refusal| refusal.number).err();
+    let number = |card: Card, job: usize| report(&table, job, 1, &mut { card }).map_err(|refusal| refusal.number).err();
     let card = Card { held: 0x01, unread: 0x02, reports: 0, taken: 0, planned: 0 };
     assert_eq!(number(card, 0), None);
     assert_eq!(number(Card { unread: 0x03, reports: 65_535, ..card }, 9), Some(8));
-    assert_eq!(number(Card { reports: 65_535, ..card }, 5), Some(16));
+    for job in [5, 255, 256, 300, 1 << 63, usize::MAX] {
+        assert_eq!(number(Card { reports: 65_535, ..card }, job), Some(16));
+    }
     assert_eq!(number(Card { reports: 65_535, ..card }, 1), Some(17));
     assert_eq!(number(Card { reports: 65_535, ..card }, 0), Some(18));
     assert_eq!(number(Card { taken: 1, ..card }, 0), Some(18));

@@ -11,7 +11,7 @@ extern "C" {
     fn bay_read_table(table: *const u8, table_len: usize, answer: *mut u64) -> u64;
     fn bay_read_job(table: *const u8, table_len: usize, job: usize, answer: *mut u64) -> u64;
     fn bay_write_table(
-        facts: u8,
+        facts: usize,
         needs: *const u64,
         needs_len: usize,
         adds: *const u64,
@@ -90,7 +90,7 @@ extern "C" {
     fn bay_report(
         table: *const u8,
         table_len: usize,
-        job: u8,
+        job: usize,
         seconds: u16,
         card_held: *mut u64,
         card_unread: *mut u64,
@@ -140,7 +140,7 @@ pub fn read_job(table: &[u8], job: usize) -> [u64; 5] {
     answer_of(|answer| unsafe { bay_read_job(table.as_ptr(), table.len(), job, answer) })
 }
 
-pub fn write_table(facts: u8, columns: &Columns, goal: u64, out: &mut [u8]) -> [u64; 2] {
+pub fn write_table(facts: usize, columns: &Columns, goal: u64, out: &mut [u8]) -> [u64; 2] {
     answer_of(|answer| unsafe {
         bay_write_table(
             facts,
@@ -231,7 +231,7 @@ pub fn read_outside(table: &[u8], held: u64, unread: u64, card: &mut Card) -> [u
     })
 }
 
-pub fn report(table: &[u8], job: u8, seconds: u16, card: &mut Card) -> [u64; 2] {
+pub fn report(table: &[u8], job: usize, seconds: u16, card: &mut Card) -> [u64; 2] {
     answer_of(|answer| unsafe {
         bay_report(
             table.as_ptr(),

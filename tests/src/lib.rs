@@ -8,3 +8,7 @@ pub mod trailer;
 mod edit_tests;
 #[cfg(test)]
 mod engine_tests;
+#[cfg(test)]
+mod formats_tests;
+#[cfg(test)]
+mod header_tests;

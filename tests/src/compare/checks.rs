@@ -118,7 +118,7 @@ pub fn read_job(bytes: &[u8], number: usize) -> Result<Job, Refusal> {
 }
 
 pub fn write_table(
-    facts: u8,
+    facts: usize,
     columns: &Columns,
     goal: u64,
     out_len: usize,
@@ -272,7 +272,7 @@ pub fn read_outside(table: &[u8], held: u64, unread: u64, card: &mut Card) -> Re
     )
 }
 
-pub fn report(table: &[u8], job: u8, seconds: u16, card: &mut Card) -> Result<(), Refusal> {
+pub fn report(table: &[u8], job: usize, seconds: u16, card: &mut Card) -> Result<(), Refusal> {
     over_card(
         "report",
         table,

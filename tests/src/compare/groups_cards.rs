@@ -14,6 +14,7 @@ pub fn groups() -> Vec<Group> {
         Group { name: "cards_through_a_plan", cases: 6_000, run: through_a_plan },
         Group { name: "cards_of_older_tables", cases: 4_000, run: of_an_older_table },
         Group { name: "card_of_65535_reports", cases: 1, run: most_reports },
+        Group { name: "reports_of_no_job", cases: 64, run: no_job },
         Group { name: "lateness", cases: 2_000, run: lateness },
     ]
 }
@@ -39,17 +40,24 @@ fn card(random: &mut Random, facts: u32) -> Card {
     Card { held, unread, reports, taken, planned }
 }
 
+/// A number that mostly names no job. Some would name one if they were cut to a byte or to 32 bits.
+fn any_number(random: &mut Random) -> usize {
+    let low = random.below(4);
+    let byte = usize::from(random.byte());
+    *random.pick(&[byte, byte, 255, 256 + low, 300, 65_536 + low, (1 << 32) + low, 1 << 63, usize::MAX])
+}
+
 fn any_card(random: &mut Random, _: u64) {
     let table = make::table(random, 64, 6);
     let bytes = make::bytes_of(&table);
     let mut card = card(random, table.facts);
     for _ in 0..4 {
-        let number = random.below(table.jobs.len() + 1) as u8;
-        let number = if random.one_in(12) { random.byte() } else { number };
+        let number = random.below(table.jobs.len() + 1);
+        let number = if random.one_in(12) { any_number(random) } else { number };
         let seconds = *random.pick(&[0, 1, 600, 65_535]);
         if random.one_in(3) {
             // Hold its needs, so that reports are often taken.
-            if let Some(job) = table.jobs.get(usize::from(number)) {
+            if let Some(job) = table.jobs.get(number) {
                 card.held |= job.needs;
                 card.unread &= !job.needs;
             }
@@ -77,7 +85,7 @@ fn refused(random: &mut Random, _: u64) {
     match random.below(3) {
         0 => drop(checks::open(&bytes, held, unread, &mut card)),
         1 => drop(checks::read_outside(&bytes, held, unread, &mut card)),
-        _ => drop(checks::report(&bytes, random.byte(), 1, &mut card)),
+        _ => drop(checks::report(&bytes, any_number(random), 1, &mut card)),
     }
 }
 
@@ -101,7 +109,7 @@ fn through_a_plan(random: &mut Random, _: u64) {
             Status::Running(number) => {
                 let seconds = random.next() as u16;
                 let job = table.jobs[usize::from(number)];
-                checks::report(&bytes, number, seconds, &mut card).expect("a named job is applicable");
+                checks::report(&bytes, usize::from(number), seconds, &mut card).expect("a named job is applicable");
                 state = job.finish(state);
                 listed += u32::from(job.seconds);
             }
@@ -130,6 +138,22 @@ fn most_reports(_: &mut Random, _: u64) {
     assert_eq!((card.reports, card.taken, card.planned), (65_535, 4_294_836_225, 353_889_000));
     let refusal = checks::report(&bytes, 0, 0, &mut card).expect_err("the card is full");
     assert_eq!((refusal.number, refusal.place), (18, 0));
+}
+
+/// A number with any one bit above those of a byte names no job, whatever its lower bits name: 16, and the card stays.
+fn no_job(_: &mut Random, index: u64) {
+    let bytes = table_bytes(2, &[Job { needs: 1, adds: 2, deletes: 0, seconds: 60 }; 3], 2);
+    let opened = Card { held: 1, unread: 0, reports: 0, taken: 0, planned: 0 };
+    for low in 0..3 {
+        let mut card = opened;
+        let number = 1 << index | low;
+        let refusal = checks::report(&bytes, number, 60, &mut card).err();
+        if number < 3 {
+            assert_eq!((refusal, card.reports), (None, 1));
+        } else {
+            assert_eq!((refusal, card), (Some(Refusal { number: 16, place: 0 }), opened));
+        }
+    }
 }
 
 /// A card that was filled before document 02's W3, when a job could be listed with any 16 bits of seconds. Where its planned sum is above

@@ -41,7 +41,7 @@ fn sound(random: &mut Random, _: u64) {
     let columns = Columns::of(&table.jobs);
     let spare = random.below(20);
     for length in [0, 1, bytes.len() - 1, bytes.len(), bytes.len() + spare] {
-        let (result, out) = checks::write_table(table.facts as u8, &columns, table.goal, length, random.next());
+        let (result, out) = checks::write_table(table.facts as usize, &columns, table.goal, length, random.next());
         assert_eq!(result.is_ok(), length >= bytes.len());
         if result.is_ok() {
             assert_eq!(out[..bytes.len()], bytes, "writing what was read gives other bytes");
@@ -88,7 +88,7 @@ fn most_jobs(random: &mut Random, index: u64) {
     for length in from..=bytes.len() {
         let _ = checks::read_table(&bytes[..length]);
     }
-    let _ = checks::write_table(facts as u8, &Columns::of(&jobs), 0, bytes.len(), random.next());
+    let _ = checks::write_table(facts as usize, &Columns::of(&jobs), 0, bytes.len(), random.next());
 }
 
 fn damaged(random: &mut Random, _: u64) {
@@ -109,14 +109,18 @@ fn any_commands(random: &mut Random, _: u64) {
 
 fn written(random: &mut Random, _: u64) {
     let table = make::table(random, 64, 6);
-    let mut facts = table.facts as u8;
+    let mut facts = table.facts as usize;
     let mut goal = table.goal;
     let mut columns = Columns::of(&table.jobs);
     for _ in 0..random.below(3) {
         let jobs = columns.needs.len();
         let high = 1 << random.between(table.facts as usize - 1, 63);
         match random.below(9) {
-            0 => facts = *random.pick(&[0, 1, 64, 65, 255]),
+            0 => {
+                // Of those that no byte holds some would be in range if they were cut.
+                let cut = 256 * random.between(1, 1 << 40) + table.facts as usize;
+                facts = *random.pick(&[0, 1, 64, 65, 255, 256, 300, cut, 1 << 63, usize::MAX])
+            }
             1 => goal |= high,
             2 if jobs > 0 => *random.pick_mut(&mut columns.needs) |= high,
             3 if jobs > 0 => *random.pick_mut(&mut columns.adds) |= high,
@@ -138,7 +142,7 @@ fn written(random: &mut Random, _: u64) {
     let (result, out) = checks::write_table(facts, &columns, goal, length, random.next());
     if let Ok(count) = result {
         let read = checks::read_table(&out[..count]).expect("a written table can be read");
-        assert_eq!((read.facts, read.goal), (u32::from(facts), goal));
+        assert_eq!((read.facts as usize, read.goal), (facts, goal));
     }
     let _ = checks::write_table(facts, &columns, goal, random.below(4), random.next());
 }

@@ -1,0 +1,28 @@
+-- `bay_plan::planned_words` meets its contract.
+-- Assumes nothing.
+use borrow.Author.Needs.{needs}
+use Rattle.bay_plan.proofs.planned_words.Statement.{statement}
+use Rattle.bay_plan.proofs.planned_words.Tie as tie
+
+enum-known-planned : tie.Need-enum-known-planned
+enum-known-planned c = search needs
+
+cast-t8 : tie.Need-cast-t8
+cast-t8 c = search needs
+
+enum-known-planned-2 : tie.Need-enum-known-planned-2
+enum-known-planned-2 c = search needs
+
+number-of-requires : tie.Need-number-of-requires
+number-of-requires c κs = search needs
+
+returns : tie.Need-returns
+returns c = rw (c .before .before .planned .given .1)
+
+returns-2 : tie.Need-returns-2
+returns-2 c = rw (c .before .before .planned2 .given .1, c .number-of .ensures)
+
+pub planned-words-spec : {M : Type 1} → statement M
+planned-words-spec =
+    tie.close
+    (tie.spec enum-known-planned cast-t8 enum-known-planned-2 number-of-requires returns returns-2)

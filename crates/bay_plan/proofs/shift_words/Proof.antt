@@ -1,0 +1,25 @@
+-- `bay_plan::shift_words` meets its contract.
+-- Assumes nothing.
+use borrow.Author.Needs.{needs}
+use Rattle.bay_plan.proofs.shift_words.Statement.{statement}
+use Rattle.bay_plan.proofs.shift_words.Tie as tie
+
+enum-known-planned : tie.Need-enum-known-planned
+enum-known-planned c = search needs
+
+enum-known-planned-2 : tie.Need-enum-known-planned-2
+enum-known-planned-2 c = search needs
+
+number-of-requires : tie.Need-number-of-requires
+number-of-requires c κs = search needs
+
+returns : tie.Need-returns
+returns c = rw (c .before .planned .given .1)
+
+returns-2 : tie.Need-returns-2
+returns-2 c = rw (c .before .before .planned2 .given .1, c .number-of .ensures)
+
+pub shift-words-spec : {M : Type 1} → statement M
+shift-words-spec =
+    tie.close
+    (tie.spec enum-known-planned enum-known-planned-2 number-of-requires returns returns-2)

@@ -1,0 +1,2 @@
+pub mod PlanWords
+pub mod PlanWordLaws

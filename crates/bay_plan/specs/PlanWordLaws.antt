@@ -1,0 +1,31 @@
+-- A plan's promise, with its answer in words.
+-- Assumes nothing.
+use mathlib.Core.Path.{_≡_, ap, _∙_}
+use mathlib.Core.List.{List}
+use Prim.Native.Nat.{ℕ}
+use lib.ListN.{length, getD}
+use Rattle.reading.specs.declared.Reading.{Reading}
+use Rattle.expander.specs.Expands.{Columns, room}
+use Rattle.planner.specs.declared.Planned.{Planned}
+use Rattle.planner.specs.declared.ShiftPlanned.{ShiftPlanned}
+use Rattle.planner.specs.Plan.{laid, shift, answerOf, shiftAnswerOf}
+use Rattle.planner.specs.Promise.{Plans, PlansShift}
+use Rattle.bay_words.specs.Words.{words}
+use Rattle.bay_words.specs.WordLaws.{answered-by}
+use Rattle.bay_plan.specs.PlanWords.{summaryWords, sizeWords, PlanAnswered, ShiftAnswered}
+
+-- a plan for a start
+pub plan-answered : {table : List ℕ} {start : Reading} {before after : Columns} {treeBefore treeAfter lent : List ℕ} {r : Planned}
+    → Plans table start before after treeBefore treeAfter r → lent ≡ words 5 summaryWords (answerOf r)
+    → PlanAnswered table start (laid table start (room before) (length treeBefore)) before after treeBefore treeAfter lent (getD lent 0 0)
+plan-answered plans e =
+    let told = plans .lays .answer-and-tree .answer in
+    record { lays = rw told at (plans .lays); answers = answered-by (e ∙ ap (words 5 summaryWords) told); keeps = plans .keeps }
+
+-- a plan for the whole shift
+pub shift-answered : {table : List ℕ} {before after : Columns} {treeBefore treeAfter lent : List ℕ} {r : ShiftPlanned}
+    → PlansShift table before after treeBefore treeAfter r → lent ≡ words 3 sizeWords (shiftAnswerOf r)
+    → ShiftAnswered table (shift table (room before) (length treeBefore)) before after treeBefore treeAfter lent (getD lent 0 0)
+shift-answered plans e =
+    let told = plans .lays .answer-and-tree .answer in
+    record { lays = rw told at (plans .lays); answers = answered-by (e ∙ ap (words 3 sizeWords) told); serves = plans .serves }

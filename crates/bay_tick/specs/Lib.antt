@@ -1,0 +1,2 @@
+pub mod TickWords
+pub mod TickWordLaws

@@ -1,0 +1,281 @@
+"""The bay planner from Python: every function of include/bay.h, with Python values in and out.
+
+    import bay
+    library = bay.Bay("target/libbay.so")
+    plan = library.plan(table, bay.Reading(held=0x02))
+
+The shared object is made from the static library:
+
+    tools/library.sh
+    gcc -shared -o target/libbay.so -Wl,--whole-archive target/staticlib/libbay.a -Wl,--no-whole-archive
+
+A call that the library refuses raises Refused with the number and the place. A number that the library's parameter has no room for
+raises ValueError before the call, so that none is cut; a value of another kind raises TypeError.
+"""
+
+import ctypes
+import enum
+import operator
+from ctypes import POINTER, byref, c_int64, c_size_t, c_uint8, c_uint16, c_uint32, c_uint64, c_void_p
+from typing import NamedTuple, Optional, Tuple
+
+MAX_FACTS = 64
+MAX_JOBS = 128
+MAX_SECONDS = 5400
+MAX_TABLE_BYTES = 3468
+MAX_ENTRIES = 4096
+MAX_TREE_BYTES = 65535
+NO_JOB = 255
+
+
+class Refusal(enum.IntEnum):
+    """Why a call is refused; include/bay.h says each at length."""
+
+    OK = 0
+    TABLE_CUT = 1
+    COMMAND_NOT_ALLOWED = 2
+    FACT_COUNT_OUT_OF_RANGE = 3
+    TOO_MANY_JOBS = 4
+    TABLE_MASK_OUT_OF_RANGE = 5
+    EFFECTS_OVERLAP = 6
+    BYTES_AFTER_TABLE = 7
+    BAD_READING = 8
+    START_UNREAD = 9
+    LIST_FULL = 10
+    NO_WAY = 11
+    TREE_TOO_SHORT = 12
+    BAD_TREE = 13
+    TREE_TOO_DEEP = 14
+    TREE_OPERAND_OUT_OF_RANGE = 15
+    NO_SUCH_JOB = 16
+    NEED_NOT_HELD = 17
+    CARD_EXHAUSTED = 18
+    JOB_TOO_LONG = 19
+    TOO_SHORT = 100
+    UNEVEN = 101
+
+
+class Status(enum.IntEnum):
+    SUCCESS = 0
+    FAILURE = 1
+    RUNNING = 2
+    UNSETTLED = 3
+
+
+class Refused(Exception):
+    def __init__(self, refusal: Refusal, place: int):
+        super().__init__(f"refused {int(refusal)} {place}: {refusal.name.lower().replace('_', ' ')}")
+        self.refusal = refusal
+        self.place = place
+
+
+class Reading(NamedTuple):
+    """The facts held, and those that were not read. A fact in neither is read and absent."""
+
+    held: int = 0
+    unread: int = 0
+
+
+class Header(NamedTuple):
+    facts: int
+    jobs: int
+    goal: int
+
+
+class Job(NamedTuple):
+    needs: int
+    adds: int
+    deletes: int
+    seconds: int
+
+
+class Entry(NamedTuple):
+    condition: int
+    job: Optional[int]  # None at entry 0
+    parent: int
+    depth: int
+
+
+class Plan(NamedTuple):
+    entries: Tuple[Entry, ...]
+    tree: bytes
+    way_jobs: int
+    way_minutes: int
+
+
+class ShiftPlan(NamedTuple):
+    entries: Tuple[Entry, ...]
+    tree: bytes
+
+
+class Tick(NamedTuple):
+    status: Status
+    job: Optional[int] = None  # of RUNNING: to do next
+    to_read: int = 0  # of UNSETTLED: the facts to read first
+
+
+class Card(NamedTuple):
+    """A job card. The calls over it give the card after them; a refused one leaves the old card as it was."""
+
+    held: int
+    unread: int
+    reports: int = 0
+    taken: int = 0
+    planned: int = 0
+
+
+def _number(name, value, bits):
+    """A number that so many bits hold, or an error: ctypes would cut it."""
+    try:
+        number = operator.index(value)
+    except TypeError:
+        raise TypeError(f"{name} is to be a whole number, and not {value!r}") from None
+    if not 0 <= number < 1 << bits:
+        raise ValueError(f"{name} is {number}, outside 0 to {(1 << bits) - 1}")
+    return number
+
+
+def _row(kind, values):
+    # One element more, so that an empty row has a pointer that is not null.
+    return (kind * (len(values) + 1))(*values), len(values)
+
+
+def _bytes(name, value):
+    if not isinstance(value, (bytes, bytearray, memoryview)):
+        raise TypeError(f"{name} is to be bytes, and not {value!r}")
+    return _row(c_uint8, bytes(value))
+
+
+def _masks(name, reading):
+    held, unread = reading
+    return _number(f"{name}.held", held, 64), _number(f"{name}.unread", unread, 64)
+
+
+_SLICE = [c_void_p, c_size_t]
+_MASKS = [c_uint64, c_uint64]
+_CARD = [POINTER(c_uint64), POINTER(c_uint64), POINTER(c_uint16), POINTER(c_uint32), POINTER(c_uint32)]
+_ANSWER = [POINTER(c_uint64)]
+
+# The parameters of every function that has an answer, as include/bay.h declares them.
+_PARAMETERS = {
+    "bay_read_table": _SLICE + _ANSWER,
+    "bay_read_job": _SLICE + [c_size_t] + _ANSWER,
+    "bay_write_table": [c_size_t] + _SLICE * 4 + [c_uint64] + _SLICE + _ANSWER,
+    "bay_plan": _SLICE + _MASKS + _SLICE * 5 + _ANSWER,
+    "bay_plan_shift": _SLICE + _SLICE * 5 + _ANSWER,
+    "bay_tick": _SLICE * 2 + _MASKS + _ANSWER,
+    "bay_open": _SLICE + _MASKS + _CARD + _ANSWER,
+    "bay_read_outside": _SLICE + _MASKS + _CARD[:2] + _ANSWER,
+    "bay_report": _SLICE + [c_size_t, c_uint16] + _CARD + _ANSWER,
+}
+
+
+class _CardParts:
+    """A card in its lent parts."""
+
+    BITS = [("held", 64), ("unread", 64), ("reports", 16), ("taken", 32), ("planned", 32)]
+    KINDS = [c_uint64, c_uint64, c_uint16, c_uint32, c_uint32]
+
+    def __init__(self, card):
+        numbers = [_number(f"card.{name}", value, bits) for (name, bits), value in zip(self.BITS, card)]
+        self.parts = [kind(number) for kind, number in zip(self.KINDS, numbers)]
+
+    def lent(self):
+        return [byref(part) for part in self.parts]
+
+    def card(self):
+        return Card(*(part.value for part in self.parts))
+
+
+class Bay:
+    """The library."""
+
+    def __init__(self, path):
+        self._library = ctypes.CDLL(path)
+        for name, parameters in _PARAMETERS.items():
+            function = getattr(self._library, name)
+            function.argtypes = parameters
+            function.restype = c_uint64
+        self._library.bay_lateness.argtypes = [c_uint32, c_uint32]
+        self._library.bay_lateness.restype = c_int64
+
+    def _call(self, name, words, *arguments):
+        answer = (c_uint64 * words)()
+        if getattr(self._library, name)(*arguments, answer) != 0:
+            raise Refused(Refusal(answer[0]), answer[1])
+        return list(answer[1:])
+
+    # ---- the table
+
+    def read_table(self, table) -> Header:
+        return Header(*self._call("bay_read_table", 4, *_bytes("table", table)))
+
+    def read_job(self, table, job) -> Job:
+        return Job(*self._call("bay_read_job", 5, *_bytes("table", table), _number("job", job, 64)))
+
+    def write_table(self, facts, jobs, goal) -> bytes:
+        """The bytes of a table; each job is a Job, or its needs, adds, deletes and seconds in that order."""
+        jobs = [Job(*job) for job in jobs]
+        columns = []
+        for name, kind, bits in [("needs", c_uint64, 64), ("adds", c_uint64, 64), ("deletes", c_uint64, 64), ("seconds", c_uint16, 16)]:
+            columns += _row(kind, [_number(f"job {i}'s {name}", getattr(job, name), bits) for i, job in enumerate(jobs)])
+        out, room = _row(c_uint8, bytes(12 + 27 * len(jobs)))
+        facts, goal = _number("facts", facts, 64), _number("goal", goal, 64)
+        (length,) = self._call("bay_write_table", 2, facts, *columns, goal, out, room)
+        return bytes(out[:length])
+
+    # ---- the plan
+
+    def _planned(self, name, words, arguments, most_entries, most_tree_bytes):
+        most_entries = _number("most_entries", most_entries, 32)
+        most_tree_bytes = _number("most_tree_bytes", most_tree_bytes, 32)
+        rows = [_row(kind, [0] * most_entries) for kind in (c_uint64, c_uint8, c_uint16, c_uint16)]
+        tree = _row(c_uint8, bytes(most_tree_bytes))
+        lent = [part for row in rows + [tree] for part in row]
+        entries, length, *more = self._call(name, words, *arguments, *lent)
+        listed = zip(*(row[:entries] for row, _ in rows))
+        listed = tuple(Entry(condition, job if i else None, parent, depth) for i, (condition, job, parent, depth) in enumerate(listed))
+        return (listed, bytes(tree[0][:length]), *more)
+
+    def plan(self, table, start, most_entries=MAX_ENTRIES, most_tree_bytes=MAX_TREE_BYTES) -> Plan:
+        arguments = (*_bytes("table", table), *_masks("start", start))
+        return Plan(*self._planned("bay_plan", 5, arguments, most_entries, most_tree_bytes))
+
+    def plan_shift(self, table, most_entries=MAX_ENTRIES, most_tree_bytes=MAX_TREE_BYTES) -> ShiftPlan:
+        return ShiftPlan(*self._planned("bay_plan_shift", 3, _bytes("table", table), most_entries, most_tree_bytes))
+
+    # ---- the tick
+
+    def tick(self, table, tree, reading) -> Tick:
+        arguments = (*_bytes("table", table), *_bytes("tree", tree), *_masks("reading", reading))
+        word, value = self._call("bay_tick", 3, *arguments)
+        status = Status(word)
+        if status == Status.RUNNING:
+            return Tick(status, job=value)
+        return Tick(status, to_read=value)
+
+    # ---- the job card
+
+    def open(self, table, reading) -> Card:
+        parts = _CardParts(Card(0, 0))
+        self._call("bay_open", 2, *_bytes("table", table), *_masks("reading", reading), *parts.lent())
+        return parts.card()
+
+    def read_outside(self, table, card, reading) -> Card:
+        parts = _CardParts(card)
+        self._call("bay_read_outside", 2, *_bytes("table", table), *_masks("reading", reading), *parts.lent()[:2])
+        return parts.card()
+
+    def report(self, table, card, job, seconds) -> Card:
+        parts = _CardParts(card)
+        job, seconds = _number("job", job, 64), _number("seconds", seconds, 16)
+        self._call("bay_report", 2, *_bytes("table", table), job, seconds, *parts.lent())
+        return parts.card()
+
+    def lateness(self, card) -> int:
+        """Taken minus planned, in whole minutes, of every card."""
+        taken, planned = _number("card.taken", card.taken, 32), _number("card.planned", card.planned, 32)
+        return self._library.bay_lateness(taken, planned)
+
+    def tick_card(self, table, tree, card) -> Tick:
+        return self.tick(table, tree, Reading(card.held, card.unread))

@@ -1,0 +1,246 @@
+"""Tests of bay.py: its ranges are checked before a call, its numbers and parameters are those of include/bay.h, its results are right.
+
+    python3 examples/python/test_bay.py target/libbay.so
+
+The last line is 'N passed, M failed'.
+"""
+
+import os
+import re
+import sys
+import unittest
+from ctypes import POINTER, c_size_t, c_uint16, c_uint32, c_uint64, c_void_p
+
+import bay as module
+from bay import Bay, Card, Entry, Header, Job, Plan, Reading, Refusal, Refused, ShiftPlan, Status, Tick
+
+JOBS = [
+    Job(0x01, 0x02, 0x01, 300),
+    Job(0x02, 0x01, 0x02, 240),
+    Job(0x01, 0x04, 0x00, 600),
+    Job(0x02, 0x08, 0x00, 600),
+    Job(0x0C, 0x10, 0x00, 150),
+]
+LIBRARY = "target/libbay.so"
+
+
+class NoLibrary:
+    """In the library's place where no call may come through."""
+
+    def __getattr__(self, name):
+        raise AssertionError(f"{name} was called")
+
+
+def unlinked():
+    bay = Bay.__new__(Bay)
+    bay._library = NoLibrary()
+    return bay
+
+
+class Ranges(unittest.TestCase):
+    """What the library's parameters do not hold is an error, and the library is not called."""
+
+    TABLE = b"table"
+    CARD = Card(1, 2, 3, 4, 5)
+
+    def calls(self, bits):
+        """Every parameter of so many bits, as a call with a value for it."""
+        bay, table, card = unlinked(), self.TABLE, self.CARD
+        job = Job(0, 0, 0, 0)
+        if bits == 64:
+            yield lambda x: bay.read_job(table, x)
+            yield lambda x: bay.write_table(x, [], 0)
+            yield lambda x: bay.write_table(1, [], x)
+            for name in ("needs", "adds", "deletes"):
+                yield lambda x, name=name: bay.write_table(1, [job, job._replace(**{name: x})], 0)
+            for reading in (lambda x: Reading(x, 0), lambda x: Reading(0, x)):
+                yield lambda x, reading=reading: bay.plan(table, reading(x))
+                yield lambda x, reading=reading: bay.tick(table, b"", reading(x))
+                yield lambda x, reading=reading: bay.open(table, reading(x))
+                yield lambda x, reading=reading: bay.read_outside(table, card, reading(x))
+            yield lambda x: bay.report(table, card, x, 0)
+            for name in ("held", "unread"):
+                yield lambda x, name=name: bay.read_outside(table, card._replace(**{name: x}), Reading())
+                yield lambda x, name=name: bay.report(table, card._replace(**{name: x}), 0, 0)
+                yield lambda x, name=name: bay.tick_card(table, b"", card._replace(**{name: x}))
+        if bits == 32:
+            yield lambda x: bay.plan(table, Reading(), most_entries=x)
+            yield lambda x: bay.plan_shift(table, most_tree_bytes=x)
+            for name in ("taken", "planned"):
+                yield lambda x, name=name: bay.report(table, card._replace(**{name: x}), 0, 0)
+                yield lambda x, name=name: bay.lateness(card._replace(**{name: x}))
+        if bits == 16:
+            yield lambda x: bay.write_table(1, [job, job._replace(seconds=x)], 0)
+            yield lambda x: bay.report(table, card, 0, x)
+            yield lambda x: bay.report(table, card._replace(reports=x), 0, 0)
+
+    def test_outside(self):
+        for bits in (16, 32, 64):
+            for call in self.calls(bits):
+                for value in (-1, -(1 << 63), 1 << bits, (1 << bits) + 3, 1 << 200):
+                    with self.assertRaises(ValueError):
+                        call(value)
+
+    def test_no_numbers(self):
+        for bits in (16, 32, 64):
+            for call in self.calls(bits):
+                for value in (2.0, "3", None, b"4", [5]):
+                    with self.assertRaises(TypeError):
+                        call(value)
+
+    def test_no_bytes(self):
+        bay = unlinked()
+        for value in (3, "table", None, [16, 5]):
+            for call in (
+                lambda x: bay.read_table(x),
+                lambda x: bay.read_job(x, 0),
+                lambda x: bay.plan(x, Reading()),
+                lambda x: bay.plan_shift(x),
+                lambda x: bay.tick(x, b"", Reading()),
+                lambda x: bay.tick(b"", x, Reading()),
+                lambda x: bay.open(x, Reading()),
+                lambda x: bay.read_outside(x, self.CARD, Reading()),
+                lambda x: bay.report(x, self.CARD, 0, 0),
+            ):
+                with self.assertRaises(TypeError):
+                    call(value)
+
+
+class Interface(unittest.TestCase):
+    """Names, numbers and parameters are those of include/bay.h."""
+
+    @classmethod
+    def setUpClass(cls):
+        path = os.path.join(os.path.dirname(os.path.abspath(__file__)), "../../include/bay.h")
+        with open(path, encoding="utf8") as file:
+            cls.header = re.sub(r"/\*.*?\*/", "", file.read(), flags=re.S)
+
+    def names(self, enumeration):
+        body = re.search(r"enum %s \{(.*?)\};" % enumeration, self.header, re.S).group(1)
+        return {name: int(number) for name, number in re.findall(r"BAY_(\w+) = (\d+)", body)}
+
+    def test_refusals(self):
+        self.assertEqual({refusal.name: refusal.value for refusal in Refusal}, self.names("bay_refusal"))
+
+    def test_statuses(self):
+        names = self.names("bay_status")
+        del names["NO_STATUS"]
+        self.assertEqual({status.name: status.value for status in Status}, names)
+
+    def test_constants(self):
+        constants = dict(re.findall(r"#define BAY_(\w+) (\d+)", self.header))
+        self.assertGreaterEqual(len(constants), 7)
+        for name, number in constants.items():
+            self.assertEqual(getattr(module, name), int(number))
+
+    @staticmethod
+    def kind(parameter):
+        """A parameter of C as bay.py passes it: a buffer by its address, what is lent alone by a pointer to its type."""
+        kinds = {"uint8_t": None, "uint16_t": c_uint16, "uint32_t": c_uint32, "uint64_t": c_uint64, "size_t": c_size_t}
+        words = re.match(r"(?:const )?(\w+) (\*?)(\w+)(\[\d+\])?$", parameter)
+        base, star, name, row = words.groups()
+        if row or star and name.startswith("card_"):
+            return POINTER(kinds[base])
+        return c_void_p if star else kinds[base]
+
+    def test_parameters(self):
+        declared = dict(re.findall(r"^uint64_t (bay_\w+)\(([^;{]*)\);", self.header, re.M))
+        self.assertEqual(set(declared), set(module._PARAMETERS))
+        for name, parameters in declared.items():
+            parameters = [self.kind(re.sub(r"\s+", " ", each).strip()) for each in parameters.split(",")]
+            self.assertEqual(parameters, module._PARAMETERS[name], name)
+
+
+class Calls(unittest.TestCase):
+    """Document 01's trailer, through every function."""
+
+    def setUp(self):
+        self.bay = Bay(LIBRARY)
+        self.table = self.bay.write_table(5, JOBS, 0x10)
+
+    def refused(self, refusal, place, call, *arguments, **named):
+        with self.assertRaises(Refused) as caught:
+            call(*arguments, **named)
+        self.assertEqual((caught.exception.refusal, caught.exception.place), (refusal, place))
+
+    def test_tables(self):
+        self.assertEqual(len(self.table), 147)
+        self.assertEqual(self.bay.read_table(self.table), Header(facts=5, jobs=5, goal=0x10))
+        self.assertEqual([self.bay.read_job(self.table, number) for number in range(5)], JOBS)
+        self.refused(Refusal.TABLE_CUT, 146, self.bay.read_table, self.table[:146])
+        self.refused(Refusal.BYTES_AFTER_TABLE, 147, self.bay.read_table, self.table + b"?")
+        self.refused(Refusal.TABLE_CUT, 0, self.bay.read_table, b"")
+        for number in (5, 255, 256, 261, 1 << 63, (1 << 64) - 1):
+            self.refused(Refusal.NO_SUCH_JOB, 0, self.bay.read_job, self.table, number)
+        # 5 if they were cut to a byte.
+        for facts in (0, 65, 256, 261, (1 << 32) + 5, 1 << 63):
+            self.refused(Refusal.FACT_COUNT_OUT_OF_RANGE, 0, self.bay.write_table, facts, JOBS, 0x10)
+        self.refused(Refusal.JOB_TOO_LONG, 2, self.bay.write_table, 5, [JOBS[0]._replace(seconds=5401)], 0x10)
+        self.refused(Refusal.TOO_MANY_JOBS, 2 + 27 * 128, self.bay.write_table, 5, JOBS * 26, 0x10)
+        self.assertEqual(len(self.bay.write_table(5, (JOBS * 26)[:128], 0x10)), module.MAX_TABLE_BYTES)
+
+    def test_plans(self):
+        plan = self.bay.plan(self.table, Reading(held=0x02))
+        self.assertIsInstance(plan, Plan)
+        self.assertEqual((len(plan.entries), len(plan.tree), plan.way_jobs, plan.way_minutes), (8, 111, 4, 26))
+        self.assertEqual(plan.entries[0], Entry(condition=0x10, job=None, parent=0, depth=0))
+        self.assertEqual(plan.entries[7], Entry(condition=0x02, job=3, parent=4, depth=4))
+        shift = self.bay.plan_shift(self.table)
+        self.assertIsInstance(shift, ShiftPlan)
+        self.assertEqual((len(shift.entries), len(shift.tree)), (9, 125))
+        self.assertEqual(shift.entries[:8], plan.entries)
+        self.refused(Refusal.BAD_READING, 0, self.bay.plan, self.table, Reading(0x20))
+        self.refused(Refusal.START_UNREAD, 0, self.bay.plan, self.table, Reading(0x02, 0x08))
+        self.refused(Refusal.NO_WAY, 9, self.bay.plan, self.table, Reading(0x08))
+        self.refused(Refusal.LIST_FULL, 8, self.bay.plan, self.table, Reading(0x08), most_entries=8)
+        self.refused(Refusal.LIST_FULL, 0, self.bay.plan, self.table, Reading(0x10), most_entries=0)
+        self.refused(Refusal.TREE_TOO_SHORT, 8, self.bay.plan, self.table, Reading(0x02), most_tree_bytes=110)
+        self.refused(Refusal.LIST_FULL, 8, self.bay.plan_shift, self.table, most_entries=8)
+
+    def test_ticks(self):
+        tree = self.bay.plan(self.table, Reading(0x02)).tree
+        for reading, tick in [
+            (Reading(0x02), Tick(Status.RUNNING, job=3)),
+            (Reading(0x03), Tick(Status.RUNNING, job=3)),
+            (Reading(0x02, 0x01), Tick(Status.UNSETTLED, to_read=0x01)),
+            (Reading(0x02, 0x08), Tick(Status.UNSETTLED, to_read=0x08)),
+            (Reading(0x08), Tick(Status.FAILURE)),
+            (Reading(0x10), Tick(Status.SUCCESS)),
+        ]:
+            self.assertEqual(self.bay.tick(self.table, tree, reading), tick)
+            self.assertEqual(self.bay.tick_card(self.table, tree, Card(*reading, 65535, 1, 2)), tick)
+        self.refused(Refusal.BAD_READING, 0, self.bay.tick, self.table, tree, Reading(0x02, 0x02))
+        self.refused(Refusal.BAD_TREE, 110, self.bay.tick, self.table, tree[:110], Reading(0x02))
+        self.refused(Refusal.BAD_TREE, 0, self.bay.tick, self.table, bytes(65536), Reading(0x02))
+
+    def test_cards(self):
+        card = self.bay.open(self.table, Reading(0x02, 0x09))
+        self.assertEqual(card, Card(held=0x02, unread=0x09, reports=0, taken=0, planned=0))
+        self.refused(Refusal.BAD_READING, 0, self.bay.open, self.table, Reading(0x02, 0x20))
+        self.refused(Refusal.BAD_READING, 0, self.bay.read_outside, self.table, card, Reading(0x02, 0x02))
+        self.assertEqual(self.bay.read_outside(self.table, card, Reading(0x01)), Card(0x01, 0))
+        reported = self.bay.report(self.table, card, 3, 65535)
+        self.assertEqual(reported, Card(held=0x0A, unread=0x01, reports=1, taken=65535, planned=600))
+        self.assertEqual(card, Card(0x02, 0x09))
+        self.assertEqual(self.bay.lateness(reported), 1082)
+        self.assertEqual(self.bay.lateness(Card(0, 0, 0, 0, 150)), -2)
+        # Job 3 if they were cut to a byte or to 32 bits.
+        for number in (5, 256, 259, (1 << 32) + 3, (1 << 63) + 3):
+            self.refused(Refusal.NO_SUCH_JOB, 0, self.bay.report, self.table, card, number, 60)
+        self.refused(Refusal.NEED_NOT_HELD, 0, self.bay.report, self.table, card, 0, 60)
+        self.refused(Refusal.CARD_EXHAUSTED, 0, self.bay.report, self.table, card._replace(reports=65535), 3, 60)
+
+
+def main():
+    global LIBRARY
+    if len(sys.argv) > 1:
+        LIBRARY = sys.argv[1]
+    suite = unittest.defaultTestLoader.loadTestsFromModule(sys.modules["__main__"])
+    result = unittest.TextTestRunner(stream=sys.stdout).run(suite)
+    failed = len(result.failures) + len(result.errors)
+    print(f"{result.testsRun - failed} passed, {failed} failed")
+    sys.exit(failed != 0)
+
+
+if __name__ == "__main__":
+    main()

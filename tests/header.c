@@ -1,0 +1,200 @@
+/* The inline functions of include/bay.h, each on calls that are done and calls that are refused: every word has its name, and every
+ * place is the one that the header states. It is compiled as C99 and as C++11. The last line is `N passed, M failed`.
+ */
+#include <stdio.h>
+#include <string.h>
+
+#include "bay.h"
+
+static int passed, failed;
+
+static void check(int holds, const char *what, int line) {
+    if (holds) {
+        passed++;
+    } else {
+        failed++;
+        printf("FAILED, line %d: %s\n", line, what);
+    }
+}
+
+#define CHECK(fact) check(fact, #fact, __LINE__)
+/* A call that stands here for its result is made twice. */
+#define REFUSED(result, number, at) CHECK((result).refusal == (number) && (result).place == (at))
+#define DONE(result) REFUSED(result, BAY_OK, 0)
+
+static uint8_t table_bytes[BAY_MAX_TABLE_BYTES + 1];
+static uint64_t conditions[BAY_MAX_ENTRIES];
+static uint8_t jobs[BAY_MAX_ENTRIES];
+static uint16_t parents[BAY_MAX_ENTRIES];
+static uint16_t depths[BAY_MAX_ENTRIES];
+static uint8_t tree_bytes[BAY_MAX_TREE_BYTES + 1];
+
+/* Document 01's trailer. */
+static const uint64_t needs[5] = {0x01, 0x02, 0x01, 0x02, 0x0c};
+static const uint64_t adds[5] = {0x02, 0x01, 0x04, 0x08, 0x10};
+static const uint64_t deletes[5] = {0x01, 0x02, 0x00, 0x00, 0x00};
+static const uint16_t seconds[5] = {300, 240, 600, 600, 150};
+
+static struct bay_table first(size_t length) {
+    struct bay_table table = {table_bytes, length};
+    return table;
+}
+
+static struct bay_reading reading(uint64_t held, uint64_t unread) {
+    struct bay_reading result = {held, unread};
+    return result;
+}
+
+static struct bay_plan_room room(size_t entries, size_t bytes) {
+    struct bay_plan_room result = {conditions, jobs, parents, depths, entries, tree_bytes, bytes};
+    return result;
+}
+
+static void tables(void) {
+    struct bay_columns columns = {needs, adds, deletes, seconds, 5};
+    struct bay_written written = bay_table_write(300, columns, 0x10, table_bytes, sizeof table_bytes);
+    REFUSED(written, BAY_FACT_COUNT_OUT_OF_RANGE, 0);
+    CHECK(written.bytes == 0);
+    /* 5 if it were cut to a byte. */
+    written = bay_table_write(261, columns, 0x10, table_bytes, sizeof table_bytes);
+    REFUSED(written, BAY_FACT_COUNT_OUT_OF_RANGE, 0);
+    written = bay_table_write(4, columns, 0x10, table_bytes, sizeof table_bytes);
+    REFUSED(written, BAY_TABLE_MASK_OUT_OF_RANGE, 2 + 4 * 27);
+    written = bay_table_write(5, columns, 0x10, table_bytes, 146);
+    REFUSED(written, BAY_TOO_SHORT, 0);
+    CHECK(written.bytes == 147);
+    CHECK(table_bytes[0] == 0);
+    uint64_t answer[2];
+    CHECK(bay_write_table(5, needs, 5, adds, 4, deletes, 5, seconds, 5, 0x10, table_bytes, sizeof table_bytes, answer) == BAY_UNEVEN);
+    written = bay_table_write(5, columns, 0x10, table_bytes, sizeof table_bytes);
+    DONE(written);
+    CHECK(written.bytes == 147);
+
+    struct bay_header header = bay_table_read(first(147));
+    DONE(header);
+    CHECK(header.facts == 5 && header.jobs == 5 && header.goal == 0x10);
+    header = bay_table_read(first(146));
+    REFUSED(header, BAY_TABLE_CUT, 146);
+    CHECK(header.facts == 0 && header.jobs == 0 && header.goal == 0);
+    REFUSED(bay_table_read(first(145)), BAY_TABLE_CUT, 137);
+    REFUSED(bay_table_read(first(148)), BAY_BYTES_AFTER_TABLE, 147);
+
+    struct bay_job job = bay_table_read_job(first(147), 4);
+    DONE(job);
+    CHECK(job.needs == 0x0c && job.adds == 0x10 && job.deletes == 0 && job.seconds == 150);
+    job = bay_table_read_job(first(147), 5);
+    REFUSED(job, BAY_NO_SUCH_JOB, 0);
+    CHECK(job.needs == 0 && job.adds == 0 && job.deletes == 0 && job.seconds == 0);
+    REFUSED(bay_table_read_job(first(147), 256), BAY_NO_SUCH_JOB, 0);
+}
+
+static void plans(void) {
+    struct bay_table table = first(147);
+    REFUSED(bay_tree_plan(table, reading(0x22, 0), room(9, 200)), BAY_BAD_READING, 0);
+    REFUSED(bay_tree_plan(table, reading(0x02, 0x08), room(9, 200)), BAY_START_UNREAD, 0);
+    REFUSED(bay_tree_plan(table, reading(0x08, 0), room(8, 200)), BAY_LIST_FULL, 8);
+    REFUSED(bay_tree_plan(table, reading(0x08, 0), room(9, 200)), BAY_NO_WAY, 9);
+    struct bay_planned plan = bay_tree_plan(table, reading(0x02, 0), room(9, 110));
+    REFUSED(plan, BAY_TREE_TOO_SHORT, 8);
+    CHECK(plan.entries == 0 && plan.tree_bytes == 0 && plan.way_jobs == 0 && plan.way_minutes == 0);
+    CHECK(tree_bytes[0] == 0);
+
+    struct bay_shift_planned shift = bay_tree_plan_shift(table, room(8, 200));
+    REFUSED(shift, BAY_LIST_FULL, 8);
+    CHECK(shift.entries == 0 && shift.tree_bytes == 0);
+    shift = bay_tree_plan_shift(table, room(9, 200));
+    DONE(shift);
+    CHECK(shift.entries == 9 && shift.tree_bytes == 125);
+
+    plan = bay_tree_plan(table, reading(0x02, 0), room(9, 200));
+    DONE(plan);
+    CHECK(plan.entries == 8 && plan.tree_bytes == 111 && plan.way_jobs == 4 && plan.way_minutes == 26);
+    CHECK(jobs[0] == BAY_NO_JOB && jobs[7] == 3 && conditions[7] == 0x02 && parents[7] == 4 && depths[7] == 4);
+}
+
+static void ticks(void) {
+    struct bay_table table = first(147);
+    struct bay_tree tree = {tree_bytes, 111};
+    struct bay_ticked ticked = bay_tree_tick(table, tree, reading(0x02, 0));
+    DONE(ticked);
+    CHECK(ticked.status == BAY_RUNNING && ticked.job == 3 && ticked.to_read == 0);
+    ticked = bay_tree_tick(table, tree, reading(0x02, 0x08));
+    DONE(ticked);
+    CHECK(ticked.status == BAY_UNSETTLED && ticked.job == BAY_NO_JOB && ticked.to_read == 0x08);
+    ticked = bay_tree_tick(table, tree, reading(0x08, 0));
+    DONE(ticked);
+    CHECK(ticked.status == BAY_FAILURE && ticked.job == BAY_NO_JOB && ticked.to_read == 0);
+    ticked = bay_tree_tick(table, tree, reading(0x10, 0));
+    DONE(ticked);
+    CHECK(ticked.status == BAY_SUCCESS && ticked.job == BAY_NO_JOB && ticked.to_read == 0);
+
+    ticked = bay_tree_tick(table, tree, reading(0x02, 0x02));
+    REFUSED(ticked, BAY_BAD_READING, 0);
+    CHECK(ticked.status == BAY_NO_STATUS && ticked.job == BAY_NO_JOB && ticked.to_read == 0);
+    tree.length = 110;
+    REFUSED(bay_tree_tick(table, tree, reading(0x02, 0)), BAY_BAD_TREE, 110);
+    tree.length = 109;
+    REFUSED(bay_tree_tick(table, tree, reading(0x02, 0)), BAY_BAD_TREE, 108);
+    tree_bytes[111] = 0x4f;
+    tree.length = 112;
+    REFUSED(bay_tree_tick(table, tree, reading(0x02, 0)), BAY_BAD_TREE, 111);
+    tree.length = BAY_MAX_TREE_BYTES + 1;
+    REFUSED(bay_tree_tick(table, tree, reading(0x02, 0)), BAY_BAD_TREE, 0);
+
+    static const uint8_t no_job[] = {0x42, 1, 0, 0x44, 5, 0x4f};
+    struct bay_tree small = {no_job, sizeof no_job};
+    REFUSED(bay_tree_tick(table, small, reading(0x02, 0)), BAY_TREE_OPERAND_OUT_OF_RANGE, 3);
+    uint8_t deep[16 * 3 + 3];
+    for (size_t i = 0; i < 16; i++) {
+        static const uint8_t inner[] = {0x41, 1, 0};
+        memcpy(deep + 3 * i, inner, sizeof inner);
+    }
+    static const uint8_t leaf[] = {0x44, 0, 0x4f};
+    memcpy(deep + 48, leaf, sizeof leaf);
+    struct bay_tree deeper = {deep, sizeof deep};
+    REFUSED(bay_tree_tick(table, deeper, reading(0x02, 0)), BAY_TREE_TOO_DEEP, 48);
+}
+
+static void cards(void) {
+    struct bay_table table = first(147);
+    struct bay_tree tree = {tree_bytes, 111};
+    struct bay_card card;
+    DONE(bay_card_open(&card, table, reading(0x02, 0x01)));
+    CHECK(card.held == 0x02 && card.unread == 0x01 && card.reports == 0 && card.taken == 0 && card.planned == 0);
+    struct bay_ticked ticked = bay_card_tick(&card, table, tree);
+    CHECK(ticked.status == BAY_UNSETTLED && ticked.to_read == 0x01);
+    REFUSED(bay_card_read_outside(&card, table, reading(0x02, 0x20)), BAY_BAD_READING, 0);
+    CHECK(card.held == 0x02 && card.unread == 0x01);
+    DONE(bay_card_read_outside(&card, table, reading(0x02, 0)));
+    CHECK(card.held == 0x02 && card.unread == 0);
+
+    struct bay_card before = card;
+    /* Job 0 if they were cut to a byte. */
+    static const size_t none[] = {5, 255, 256, 512, 300, (size_t)1 << 32, (size_t)1 << 63, SIZE_MAX};
+    for (size_t i = 0; i < sizeof none / sizeof none[0]; i++) {
+        REFUSED(bay_card_report(&card, table, none[i], 60), BAY_NO_SUCH_JOB, 0);
+    }
+    REFUSED(bay_card_report(&card, table, 0, 60), BAY_NEED_NOT_HELD, 0);
+    REFUSED(bay_card_report(&card, first(100), 3, 60), BAY_TABLE_CUT, 83);
+    CHECK(card.held == before.held && card.unread == before.unread && card.reports == 0 && card.taken == 0 && card.planned == 0);
+    struct bay_done done = bay_card_report(&card, table, 3, 65535);
+    DONE(done);
+    CHECK(card.held == 0x0a && card.unread == 0 && card.reports == 1 && card.taken == 65535 && card.planned == 600);
+    CHECK(bay_card_lateness(&card) == 1082);
+    ticked = bay_card_tick(&card, table, tree);
+    CHECK(ticked.refusal == BAY_OK && ticked.status == BAY_RUNNING && ticked.job == 1);
+    card.reports = 65535;
+    REFUSED(bay_card_report(&card, table, 1, 60), BAY_CARD_EXHAUSTED, 0);
+    card.held = 0x20;
+    REFUSED(bay_card_tick(&card, table, tree), BAY_BAD_READING, 0);
+}
+
+int main(void) {
+    CHECK(BAY_MAX_TABLE_BYTES == 2 + 27 * BAY_MAX_JOBS + 10);
+    tables();
+    plans();
+    ticks();
+    cards();
+    printf("%d passed, %d failed\n", passed, failed);
+    return failed != 0;
+}

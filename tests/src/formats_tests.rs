@@ -1,0 +1,57 @@
+//! docs/FORMATS.md: the bytes that it lists are the trailer's, what it prints is what `bayplan` prints, and no number is left out.
+
+use crate::engine::{expand, read_table, tree_bytes, MOST_ENTRIES};
+use crate::header_tests::{file, refusals};
+use crate::trailer;
+
+/// The lines under a heading, up to the next one.
+fn section(page: &str, heading: &str) -> Vec<String> {
+    let mut lines = page.lines().skip_while(|line| !line.starts_with(heading));
+    assert!(lines.next().is_some(), "there is no '{heading}'");
+    lines.take_while(|line| !line.starts_with('#')).map(str::to_string).collect()
+}
+
+/// The bytes of rows `| offset | `hexadecimal` | meaning |`, each at its offset.
+fn listed_bytes(lines: &[String]) -> Vec<u8> {
+    let mut bytes = Vec::new();
+    for line in lines {
+        let cells: Vec<&str> = line.split('|').map(str::trim).collect();
+        let ["", offset, listed, _, ""] = cells.as_slice() else { continue };
+        let (Ok(offset), Some(listed)) = (offset.parse::<usize>(), listed.strip_prefix('`')) else { continue };
+        assert_eq!(offset, bytes.len(), "{line}");
+        for byte in listed.trim_end_matches('`').split(' ') {
+            bytes.push(u8::from_str_radix(byte, 16).expect("a hexadecimal byte"));
+        }
+    }
+    bytes
+}
+
+#[test]
+fn listed_bytes_are_the_trailers() {
+    let page = file("docs/FORMATS.md");
+    assert_eq!(listed_bytes(&section(&page, "### The trailer's table")), trailer::table());
+    assert_eq!(listed_bytes(&section(&page, "## A start")), trailer::start(0x02, 0));
+    let table = read_table(&trailer::table()).expect("sound");
+    let tree = tree_bytes(&expand(&table, Some(0x02), MOST_ENTRIES).0);
+    assert_eq!(listed_bytes(&section(&page, "### The trailer's tree")), tree);
+}
+
+#[test]
+fn printed_text_is_bayplans() {
+    let page = file("docs/FORMATS.md");
+    assert!(page.contains(&format!("```\n{}```\n", trailer::PRINTED)));
+    assert!(page.contains(&format!("```\n{}```\n", file("examples/damaged_table/expected.txt"))));
+}
+
+#[test]
+fn every_number_has_a_row() {
+    let page = file("docs/FORMATS.md");
+    let rows = section(&page, "## The numbers");
+    let count = refusals().len();
+    for (number, name) in refusals() {
+        let start = format!("| {number} `{}` | ", name.trim_start_matches("BAY_"));
+        assert_eq!(rows.iter().filter(|row| row.starts_with(&start)).count(), 1, "a row of {number}");
+    }
+    let numbered = |row: &&String| row.trim_start_matches("| ").starts_with(|first: char| first.is_ascii_digit());
+    assert_eq!(rows.iter().filter(numbered).count(), count, "rows of numbers");
+}
