@@ -6,26 +6,28 @@ use Prim.Native.Nat.{ℕ}
 use lib.ListN.{length, getD}
 use Rattle.reading.specs.declared.Reading.{Reading}
 use Rattle.expander.specs.Expands.{Columns, room}
+use Rattle.builder.specs.declared.Built.{Built}
+use Rattle.builder.specs.Plan.{builtOf}
 use Rattle.planner.specs.declared.Planned.{Planned}
-use Rattle.planner.specs.declared.ShiftPlanned.{ShiftPlanned}
-use Rattle.planner.specs.Plan.{laid, shift, answerOf, shiftAnswerOf}
-use Rattle.planner.specs.Promise.{Plans, PlansShift}
+use Rattle.planner.specs.Plan.{planFor, plannedOf}
+use Rattle.planner.specs.Promise.{Plans}
+use Rattle.shift_planner.specs.Shift.{planShift, PlansShift}
 use Rattle.bay_words.specs.Words.{words}
 use Rattle.bay_words.specs.WordLaws.{answered-by}
 use Rattle.bay_plan.specs.PlanWords.{summaryWords, sizeWords, PlanAnswered, ShiftAnswered}
 
 -- a plan for a start
 pub plan-answered : {table : List ℕ} {start : Reading} {before after : Columns} {treeBefore treeAfter lent : List ℕ} {r : Planned}
-    → Plans table start before after treeBefore treeAfter r → lent ≡ words 5 summaryWords (answerOf r)
-    → PlanAnswered table start (laid table start (room before) (length treeBefore)) before after treeBefore treeAfter lent (getD lent 0 0)
+    → Plans table start before after treeBefore treeAfter r → lent ≡ words 5 summaryWords (plannedOf r)
+    → PlanAnswered table start (planFor table start (room before) (length treeBefore)) before after treeBefore treeAfter lent (getD lent 0 0)
 plan-answered plans e =
-    let told = plans .lays .answer-and-tree .answer in
-    record { lays = rw told at (plans .lays); answers = answered-by (e ∙ ap (words 5 summaryWords) told); keeps = plans .keeps }
+    let told = plans .writes .answer-and-tree .answer in
+    record { writes = rw told at (plans .writes); answers = answered-by (e ∙ ap (words 5 summaryWords) told); keeps = plans .keeps }
 
 -- a plan for the whole shift
-pub shift-answered : {table : List ℕ} {before after : Columns} {treeBefore treeAfter lent : List ℕ} {r : ShiftPlanned}
-    → PlansShift table before after treeBefore treeAfter r → lent ≡ words 3 sizeWords (shiftAnswerOf r)
-    → ShiftAnswered table (shift table (room before) (length treeBefore)) before after treeBefore treeAfter lent (getD lent 0 0)
+pub shift-answered : {table : List ℕ} {before after : Columns} {treeBefore treeAfter lent : List ℕ} {r : Built}
+    → PlansShift table before after treeBefore treeAfter r → lent ≡ words 3 sizeWords (builtOf r)
+    → ShiftAnswered table (planShift table (room before) (length treeBefore)) before after treeBefore treeAfter lent (getD lent 0 0)
 shift-answered plans e =
-    let told = plans .lays .answer-and-tree .answer in
-    record { lays = rw told at (plans .lays); answers = answered-by (e ∙ ap (words 3 sizeWords) told); serves = plans .serves }
+    let told = plans .writes .answer-and-tree .answer in
+    record { writes = rw told at (plans .writes); answers = answered-by (e ∙ ap (words 3 sizeWords) told); serves = plans .serves }

@@ -1,17 +1,19 @@
 // The C interface to both plans: the functions of include/bay.h that build a list and its tree, each over the proved function of the same
 // meaning. Every function takes every input.
+use builder::Built;
 use planner::Planned;
-use planner::ShiftPlanned;
 use reading::Reading;
 ghost use mathlib.Core.Path.{_≡_};
 ghost use lib.ListN.{length};
 ghost use Rattle.expander.specs.Expands.{columns, room};
-ghost use Rattle.planner.specs.Plan.{laid, shift, answerOf, shiftAnswerOf};
+ghost use Rattle.builder.specs.Plan.{builtOf};
+ghost use Rattle.planner.specs.Plan.{planFor, plannedOf};
+ghost use Rattle.shift_planner.specs.Shift.{planShift};
 ghost use Rattle.bay_words.specs.Words.{words};
 ghost use Rattle.bay_plan.specs.PlanWords.{summaryWords, sizeWords, PlanAnswered, ShiftAnswered};
 
 fn planned_words(planned: Planned) -> [u64; 5]
-    ensures { λ r. ⌜ r ≡ words 5 summaryWords (answerOf planned) ⌝ }
+    ensures { λ r. ⌜ r ≡ words 5 summaryWords (plannedOf planned) ⌝ }
 {
     match planned {
         Planned::Built(s) => [
@@ -38,7 +40,7 @@ pub extern "C" fn bay_plan(
     answer: &mut [u64; 5],
 ) -> u64
     ensures { λ r. ⌜ PlanAnswered (now (table .entry)) (record { held = held; unread = unread })
-        (laid (now (table .entry)) (record { held = held; unread = unread })
+        (planFor (now (table .entry)) (record { held = held; unread = unread })
         (room (columns (now (conditions .entry)) (now (jobs .entry)) (now (parents .entry)) (now (depths .entry)))) (length (now (tree .entry))))
         (columns (now (conditions .entry)) (now (jobs .entry)) (now (parents .entry)) (now (depths .entry)))
         (columns (now (conditions .exit)) (now (jobs .exit)) (now (parents .exit)) (now (depths .exit)))
@@ -58,12 +60,12 @@ pub extern "C" fn bay_plan(
     summary[0]
 }
 
-fn shift_words(planned: ShiftPlanned) -> [u64; 3]
-    ensures { λ r. ⌜ r ≡ words 3 sizeWords (shiftAnswerOf planned) ⌝ }
+fn shift_words(planned: Built) -> [u64; 3]
+    ensures { λ r. ⌜ r ≡ words 3 sizeWords (builtOf planned) ⌝ }
 {
     match planned {
-        ShiftPlanned::Built(s) => [0, s.entries as u64, s.bytes as u64],
-        ShiftPlanned::Refused(why) => [bay_words::number_of(why), why.place as u64, 0],
+        Built::Whole(s) => [0, s.entries as u64, s.bytes as u64],
+        Built::Refused(why) => [bay_words::number_of(why), why.place as u64, 0],
     }
 }
 
@@ -78,12 +80,12 @@ pub extern "C" fn bay_plan_shift(
     answer: &mut [u64; 3],
 ) -> u64
     ensures { λ r. ⌜ ShiftAnswered (now (table .entry))
-        (shift (now (table .entry)) (room (columns (now (conditions .entry)) (now (jobs .entry)) (now (parents .entry)) (now (depths .entry)))) (length (now (tree .entry))))
+        (planShift (now (table .entry)) (room (columns (now (conditions .entry)) (now (jobs .entry)) (now (parents .entry)) (now (depths .entry)))) (length (now (tree .entry))))
         (columns (now (conditions .entry)) (now (jobs .entry)) (now (parents .entry)) (now (depths .entry)))
         (columns (now (conditions .exit)) (now (jobs .exit)) (now (parents .exit)) (now (depths .exit)))
         (now (tree .entry)) (now (tree .exit)) (now (answer .exit)) r ⌝ }
 {
-    let planned = planner::plan_shift(table, conditions, jobs, parents, depths, tree);
+    let planned = shift_planner::plan_shift(table, conditions, jobs, parents, depths, tree);
     let size = shift_words(planned);
     *answer = size;
     size[0]

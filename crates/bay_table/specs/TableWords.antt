@@ -2,7 +2,7 @@
 -- Definitions only.
 use mathlib.Core.List.{List, [], _∷_}
 use Prim.Native.Nat.{ℕ}
-use Rattle.table.specs.declared.Job.{Job}
+use Rattle.job.specs.declared.Job.{Job}
 use Rattle.table.specs.declared.Header.{Header}
 use Rattle.table_writer.specs.Write.{Writing, written, short, uneven, unsound}
 

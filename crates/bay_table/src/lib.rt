@@ -7,8 +7,8 @@ ghost use mathlib.Core.Path.{_≡_};
 ghost use lib.ListN.{length};
 ghost use Rattle.refusal.specs.Checked.{andThen};
 ghost use Rattle.table.specs.Table.{tableBytes};
-ghost use Rattle.table.specs.Read.{readTable, headed, namedJob, jobReadOf, answerOf};
-ghost use Rattle.table_writer.specs.Write.{even, tableOf, writing, writingOf, lentAfter};
+ghost use Rattle.table.specs.Read.{readTable, headed, namedJob, tableReadOf, jobReadOf};
+ghost use Rattle.table_writer.specs.Write.{even, tableOf, writing, tableWrittenOf, lentAfter};
 ghost use Rattle.bay_words.specs.Words.{words, Answered};
 ghost use Rattle.bay_table.specs.TableWords.{headerWords, jobWords, writingWords};
 
@@ -18,7 +18,7 @@ const BAY_TOO_SHORT: u64 = 100;
 const BAY_UNEVEN: u64 = 101;
 
 fn table_words(read: TableRead) -> [u64; 4]
-    ensures { λ r. ⌜ r ≡ words 4 headerWords (answerOf read) ⌝ }
+    ensures { λ r. ⌜ r ≡ words 4 headerWords (tableReadOf read) ⌝ }
 {
     match read {
         TableRead::Sound(h) => [0, h.facts as u64, h.jobs as u64, h.goal],
@@ -46,7 +46,7 @@ fn job_words(read: JobRead) -> [u64; 5]
 
 #[no_mangle]
 pub extern "C" fn bay_read_job(table: &[u8], job: usize, answer: &mut [u64; 5]) -> u64
-    ensures { λ r. ⌜ Answered (words 5 jobWords (andThen (readTable (now (table .entry))) (λ t. namedJob t job))) (now (answer .exit)) r ⌝ }
+    ensures { λ r. ⌜ Answered (words 5 jobWords (andThen (readTable (now (table .entry))) (λ t. namedJob t job 0))) (now (answer .exit)) r ⌝ }
 {
     let named = job_words(table::read_job(table, job));
     *answer = named;
@@ -54,7 +54,7 @@ pub extern "C" fn bay_read_job(table: &[u8], job: usize, answer: &mut [u64; 5]) 
 }
 
 fn written_words(w: TableWritten) -> [u64; 2]
-    ensures { λ r. ⌜ r ≡ writingWords (writingOf w) ⌝ }
+    ensures { λ r. ⌜ r ≡ writingWords (tableWrittenOf w) ⌝ }
 {
     match w {
         TableWritten::Written(n) => [0, n as u64],
