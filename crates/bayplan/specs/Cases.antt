@@ -3,6 +3,7 @@
 use mathlib.Core.Path.{_≡_, refl}
 use mathlib.Core.List.{List, [], _∷_, _++_, map}
 use Prim.Native.Nat.{ℕ}
+use Prim.Native.String.{String}
 use lib.ListN.{take}
 use Rattle.masks.specs.Sets.{subset, intersects, union, difference, within}
 use Rattle.masks.specs.Effects.{relevant, regressed}
@@ -15,9 +16,13 @@ use Rattle.planning.specs.Expansion.{listed, expandEntry, expandFrom, expand}
 use Rattle.minutes.specs.Minutes.{nearest}
 use Rattle.flat.specs.TreeBytes.{conditionBytes, laterBytes, laterEntries, treeBytes}
 use Rattle.planner.specs.Plan.{laidFor, laidFrom, laid}
-use Rattle.plan_text.specs.Text.{digits, placesIn, places, entriesText, planText, refusedText}
-use Rattle.plan_text.specs.Cases.{lines}
+use Rattle.text_fields.specs.Fields.{ascii, digits, placesIn, places}
+use Rattle.plan_text.specs.Text.{entriesText, planText, refusedText}
 use Rattle.bayplan.specs.Program.{laidFiles, programText}
+
+abbrev lines : List String → List ℕ
+lines [] = []
+lines (s ∷ rest) = ascii s ++ (ascii "\n" ++ lines rest)
 
 abbrev startBytes : ℕ → ℕ → List ℕ
 startBytes held unread = toBytes 8 held ++ toBytes 8 unread

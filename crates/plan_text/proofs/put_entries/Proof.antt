@@ -6,9 +6,10 @@ use native.Mathlib.Omega.{arith}
 use mathlib.Core.Path.{_≡_}
 use Prim.Native.Nat.{_-_, _≤_}
 use Rattle.planning.specs.Columns.{entryAt, entriesOf}
+use Rattle.text_fields.specs.Puts.{Put}
+use Rattle.text_fields.specs.PutLaws.{put-none, put-length}
 use Rattle.plan_text.specs.Text.{entriesText}
-use Rattle.plan_text.specs.Writes.{Put}
-use Rattle.plan_text.specs.WriteLaws.{put-none, put-within, put-length, put-entry}
+use Rattle.plan_text.specs.WriteLaws.{put-entry}
 use Rattle.plan_text.proofs.put_entries.Statement.{statement}
 use Rattle.plan_text.proofs.put_entries.Tie as tie
 
@@ -21,7 +22,7 @@ abbrev μ-loop : tie.MeasureT-loop
 
 loop-holds : tie.Need-loop-holds Inv-loop μ-loop
 unfolding entriesText
-loop-holds c = (omega arith, put-none _ _ (c .before .before .before .before .before .pre .4))
+loop-holds c = (omega arith, put-none _ _ _ (omega arith))
 
 mul-put-entry : tie.Need-mul-put-entry Inv-loop μ-loop
 mul-put-entry c = search needs
@@ -45,7 +46,7 @@ shared-slice-read-put-entry-4 : tie.Need-shared-slice-read-put-entry-4 Inv-loop 
 shared-slice-read-put-entry-4 c = search needs
 
 put-entry-requires : tie.Need-put-entry-requires Inv-loop μ-loop
-put-entry-requires c κs = put-within (c .before .before .before .before .before .before .loop .inv .1)
+put-entry-requires c κs = search needs
 
 add-i : tie.Need-add-i Inv-loop μ-loop
 add-i c = search needs

@@ -1,7 +1,7 @@
 -- `plan_text::put_entry` meets its contract: one part after another.
 -- Assumes nothing.
 use borrow.Author.Needs.{needs}
-use Rattle.plan_text.specs.WriteLaws.{put-then, put-within}
+use Rattle.text_fields.specs.PutLaws.{put-then}
 use Rattle.plan_text.proofs.put_entry.Statement.{statement}
 use Rattle.plan_text.proofs.put_entry.Tie as tie
 
@@ -27,7 +27,7 @@ put-next-requires-2 : tie.Need-put-next-requires-2
 put-next-requires-2 c κs = search needs
 
 put-byte-requires-3 : tie.Need-put-byte-requires-3
-put-byte-requires-3 c κs = put-within (c .before .before .before .put-next2 .ensures)
+put-byte-requires-3 c κs = search needs
 
 same-length : tie.Need-same-length
 same-length c = search needs

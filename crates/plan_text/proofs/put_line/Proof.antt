@@ -1,7 +1,7 @@
 -- `plan_text::put_line` meets its contract: one part after another.
 -- Assumes nothing.
 use borrow.Author.Needs.{needs}
-use Rattle.plan_text.specs.WriteLaws.{put-then}
+use Rattle.text_fields.specs.PutLaws.{put-then}
 use Rattle.plan_text.proofs.put_line.Statement.{statement}
 use Rattle.plan_text.proofs.put_line.Tie as tie
 

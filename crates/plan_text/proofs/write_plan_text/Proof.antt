@@ -4,7 +4,8 @@ use borrow.Author.Needs.{needs}
 use mathlib.Core.Path.{_≡_, ap, _∙_}
 use Prim.Native.Nat.{min}
 use Rattle.plan_text.specs.Text.{planText}
-use Rattle.plan_text.specs.WriteLaws.{put-then, put-wrote}
+use Rattle.text_fields.specs.PutLaws.{put-then}
+use Rattle.plan_text.specs.WriteLaws.{put-wrote}
 use Rattle.plan_text.proofs.write_plan_text.Statement.{statement}
 use Rattle.plan_text.proofs.write_plan_text.Tie as tie
 

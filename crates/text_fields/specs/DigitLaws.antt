@@ -1,15 +1,16 @@
 -- Laws of a number's digits, over the base, and of how many a number has in decimal.
 -- Assumes nothing.
 use borrow.Author.Tests.{lt-ltb, le-ltb}
+use native.Mathlib.Decide.{decLe}
 use native.Mathlib.Omega.{arith}
 use native.Mathlib.Nat.{pow-zero, pow-suc, one-le-pow, mul-div-cancel, div-eq-of-lt}
 use mathlib.Core.Path.{_≡_, refl, sym, ap, _∙_}
 use mathlib.Core.List.{List, [], _∷_, _++_, append-assoc, append-nil}
-use Prim.Native.Nat.{ℕ, zero, suc, _*_, _/_, _%_, _^_, _≤_, _<_, max}
+use Prim.Native.Nat.{ℕ, zero, suc, _*_, _/_, _%_, _^_, _≤_, _<_, max, min}
 use lib.ListN.{length}
-use Rattle.plan_text.specs.Text.{digit, digits, placesIn, places}
-use Rattle.plan_text.specs.Writes.{Put, Highest}
-use Rattle.plan_text.specs.WriteLaws.{put-none, put-then}
+use Rattle.text_fields.specs.Fields.{digit, digits, placesIn, places, decimal}
+use Rattle.text_fields.specs.Puts.{Put, Highest}
+use Rattle.text_fields.specs.PutLaws.{put-none, put-then}
 
 -- ---- how many decimal digits a number has
 
@@ -46,8 +47,9 @@ lower : (base k : ℕ) → 2 ≤ base → base ^ suc k / base ≡ base ^ k
 lower base k wide = rw (pow-suc base k) (mul-div-cancel (base ^ k) (omega arith))
 
 module _ (n base : ℕ) (wide : 2 ≤ base) where
-  pub spelled-none : {power k at : ℕ} (l : List ℕ) → power ≡ base ^ k → at ≤ length l → Spelled n base power (suc k) l l at at
-  spelled-none {power} {k} {at} l e h = record { left = suc k; done = []; is-power = e ∙ sym (lower base k wide); is-rest = refl; put = put-none l at h }
+  pub spelled-none : {power k at next : ℕ} (l : List ℕ) → power ≡ base ^ k → next ≡ min at (length l) → Spelled n base power (suc k) l l at next
+  spelled-none {power} {k} {at} {next} l e h =
+      record { left = suc k; done = []; is-power = e ∙ sym (lower base k wide); is-rest = refl; put = put-none l at next h }
 
   module _ {power count : ℕ} {a b : List ℕ} {i j : ℕ} (s : Spelled n base power count a b i j) where
     pub spelled-more : {c : List ℕ} {k : ℕ} → 0 < power → Put b c j k (digit (n / power % base) ∷ []) → Spelled n base (power / base) count a c i k
@@ -73,3 +75,24 @@ module _ (n base : ℕ) (wide : 2 ≤ base) where
         by-left : (left : ℕ) → power ≡ base ^ left / base → s .done ++ digits base left n ≡ digits base count n → Put a b i j (digits base count n)
         by-left zero e r = rw (← r, append-nil) (s .put)
         by-left (suc left) e r = absurd (omega (arith, e ∙ lower base left wide, one-le-pow left base (omega arith)))
+
+-- ---- how many bytes digits take
+
+pub digits-length : (base count n : ℕ) → length (digits base count n) ≡ count
+unfolding digits
+digits-length base zero n = refl
+digits-length base (suc k) n = ap suc (digits-length base k n)
+
+places-in-most : (k most n : ℕ) → n < 10 ^ suc k → placesIn most n ≤ suc k
+unfolding placesIn
+places-in-most k zero n h = omega arith
+places-in-most zero (suc most) n h = rw (lt-ltb n 10 h) (omega arith)
+places-in-most (suc k) (suc most) n h =
+    elim (decLe 10 n) [
+      | no l ↦ rw (lt-ltb n 10 (omega arith)) (omega arith)
+      | yes l ↦ rw (le-ltb n 10 l) (omega (arith, places-in-most k most (n / 10) (omega (arith, pow-suc 10 (suc k)))))
+    ]
+
+pub decimal-length : (k n : ℕ) → n < 10 ^ suc k → length (decimal n) ≤ suc k
+unfolding places
+decimal-length k n h = omega (arith, digits-length 10 (places n) n, places-in-most k n n h)

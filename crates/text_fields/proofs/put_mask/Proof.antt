@@ -1,9 +1,9 @@
--- `plan_text::put_mask` meets its contract.
+-- `text_fields::put_mask` meets its contract.
 -- Assumes nothing.
 use borrow.Author.Needs.{needs}
 use mathlib.Core.Path.{refl}
-use Rattle.plan_text.proofs.put_mask.Statement.{statement}
-use Rattle.plan_text.proofs.put_mask.Tie as tie
+use Rattle.text_fields.proofs.put_mask.Statement.{statement}
+use Rattle.text_fields.proofs.put_mask.Tie as tie
 
 put-digits-requires : tie.Need-put-digits-requires
 put-digits-requires c κs = search needs

@@ -1,9 +1,9 @@
--- `plan_text::digit_of` meets its contract.
+-- `text_fields::digit_of` meets its contract.
 -- Assumes nothing.
 use borrow.Author.Tests.{lt-ltb, le-ltb}
 use borrow.Author.Needs.{needs}
-use Rattle.plan_text.proofs.digit_of.Statement.{statement}
-use Rattle.plan_text.proofs.digit_of.Tie as tie
+use Rattle.text_fields.proofs.digit_of.Statement.{statement}
+use Rattle.text_fields.proofs.digit_of.Tie as tie
 
 cast-result : tie.Need-cast-result
 cast-result c = search needs

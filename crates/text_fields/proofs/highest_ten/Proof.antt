@@ -1,4 +1,4 @@
--- `plan_text::highest_ten` meets its contract. The loop's invariant: a power of ten that is not above the number, but for 1. The measure is
+-- `text_fields::highest_ten` meets its contract. The loop's invariant: a power of ten that is not above the number, but for 1. The measure is
 -- what the number has more than it.
 -- Assumes nothing.
 use borrow.Author.Needs.{needs}
@@ -6,9 +6,9 @@ use native.Mathlib.Omega.{arith}
 use native.Mathlib.Nat.{pow-suc}
 use mathlib.Core.Path.{_≡_, refl, sym, ap, _∙_}
 use Prim.Native.Nat.{ℕ, suc, _*_, _-_, _^_, _≤_, max}
-use Rattle.plan_text.specs.DigitLaws.{highest-is}
-use Rattle.plan_text.proofs.highest_ten.Statement.{statement}
-use Rattle.plan_text.proofs.highest_ten.Tie as tie
+use Rattle.text_fields.specs.DigitLaws.{highest-is}
+use Rattle.text_fields.proofs.highest_ten.Statement.{statement}
+use Rattle.text_fields.proofs.highest_ten.Tie as tie
 
 abbrev Inv-loop : tie.InvT-loop
 Inv-loop n power₀ power = ((1 ≤ power) × (power ≤ max n 1)) × ((k : ℕ) × (power ≡ 10 ^ k))

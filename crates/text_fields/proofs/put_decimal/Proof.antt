@@ -1,8 +1,8 @@
--- `plan_text::put_decimal` meets its contract.
+-- `text_fields::put_decimal` meets its contract.
 -- Assumes nothing.
 use borrow.Author.Needs.{needs}
-use Rattle.plan_text.proofs.put_decimal.Statement.{statement}
-use Rattle.plan_text.proofs.put_decimal.Tie as tie
+use Rattle.text_fields.proofs.put_decimal.Statement.{statement}
+use Rattle.text_fields.proofs.put_decimal.Tie as tie
 
 highest-ten-requires : tie.Need-highest-ten-requires
 highest-ten-requires c κs = search needs

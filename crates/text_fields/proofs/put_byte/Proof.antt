@@ -1,10 +1,9 @@
--- `plan_text::put_byte` meets its contract.
+-- `text_fields::put_byte` meets its contract.
 -- Assumes nothing.
 use borrow.Author.Needs.{needs}
-use native.Mathlib.Omega.{arith}
-use Rattle.plan_text.specs.WriteLaws.{put-dropped}
-use Rattle.plan_text.proofs.put_byte.Statement.{statement}
-use Rattle.plan_text.proofs.put_byte.Tie as tie
+use Rattle.text_fields.specs.PutLaws.{put-dropped}
+use Rattle.text_fields.proofs.put_byte.Statement.{statement}
+use Rattle.text_fields.proofs.put_byte.Tie as tie
 
 slice-write-out : tie.Need-slice-write-out
 slice-write-out c = search needs
@@ -19,7 +18,7 @@ returns : tie.Need-returns
 returns c = search needs
 
 returns-2 : tie.Need-returns-2
-returns-2 c = put-dropped _ _ _ (omega arith) (c .if1 .left)
+returns-2 c = put-dropped _ _ _ (c .if1 .left)
 
 pub put-byte-spec : {M : Type 1} → statement M
 put-byte-spec = tie.close (tie.spec slice-write-out add-result same-length returns returns-2)
