@@ -14,6 +14,12 @@ const SEPARATOR: u8 = b' ';
 
 const LINE_FEED: u8 = b'\n';
 
+// The most bytes of an entry's line: an entry of 4 digits, its mask, job, parent and depth, each with the byte that ends it.
+pub const ENTRY_LINE: usize = (4 + 1) + (16 + 1) + (3 + 1) + (5 + 1) + (5 + 1);
+
+// The most bytes of the lines around the entries: a word and two numbers each.
+pub const OTHER_LINES: usize = (4 + 1) + (20 + 1) + (20 + 1) + ((3 + 1) + (20 + 1) + (10 + 1));
+
 // A number that is not the first field of its line.
 fn put_next(out: &mut [u8], at: usize, n: u64) -> usize
     ensures { λ r. ⌜ Put (now (out .entry)) (now (out .exit)) at r (ascii " " ++ decimal n) ⌝ }
