@@ -1,5 +1,6 @@
 -- From the planner's answer and tables to the program's text.
 -- Assumes nothing.
+use borrow.Author.Tests.{eqb-true, eqb-false, leb-true}
 use native.Mathlib.Omega.{arith}
 use mathlib.Core.Path.{_≡_, refl, sym, ap, _∙_}
 use mathlib.Core.Bool.{Bool, true, false, _&&_}
@@ -33,25 +34,26 @@ use Rattle.refusal.specs.declared.Refusal.{Refusal}
 use Rattle.refusal.specs.Numbers.{numberOf}
 use Rattle.planner.specs.Promise.{Plans}
 use Rattle.planner.specs.Plan.{answerOf, Laid, unlaid, built, stopped, summaryOf, laidBy, laidFor, laidFrom, laidIn, laid, tableActions}
-use Rattle.program_text.specs.Shows.{Shows, unsound, readingOf, shownIn, plannedText}
+use Rattle.program_text.specs.Shows.{Shows, PlannedFrom, shownIn, entriesIn, plannedText}
 use Rattle.program_text.specs.Program.{answerText, laidText, programText, capacity, treeRoom, startSize, startOf, noStart, laidFiles}
 
 -- ---- a start that no table takes
 
-never-sound : (facts : ℕ) → sound facts unsound ≡ false
-unfolding sound intersects
-never-sound facts = by (within facts 1)
+pub shared-unsound : (r : Reading) → intersects (r .held) (r .unread) ≡ true → (facts : ℕ) → sound facts r ≡ false
+unfolding sound
+shared-unsound r e facts = rw e (by (within facts (r .held)) (within facts (r .unread)))
   where
-    by : (w : Bool) → (w && (w && false)) ≡ false
-    by true = refl
-    by false = refl
+    by : (a b : Bool) → (a && (b && false)) ≡ false
+    by true true = refl
+    by true false = refl
+    by false b = refl
 
-pub laid-unsound : (table : List ℕ) (capacity room : ℕ) → laid table unsound capacity room ≡ noStart (readTable table)
+laid-unsound : (table : List ℕ) (r : Reading) → ((facts : ℕ) → sound facts r ≡ false) → (capacity room : ℕ) → laid table r capacity room ≡ noStart (readTable table)
 unfolding laid laidFrom
-laid-unsound table capacity room = by (readTable table)
+laid-unsound table r h capacity room = by (readTable table)
   where
-    by : (t : Checked Table) → laidIn t unsound capacity room ≡ noStart t
-    by (accepted t) = rw (never-sound (t .facts))
+    by : (t : Checked Table) → laidIn t r capacity room ≡ noStart t
+    by (accepted t) = rw (h (t .facts))
     by (refused n p) = refl
 
 -- ---- a plan that is built: how many entries it lists
@@ -140,16 +142,19 @@ shown-whole {text} {a} {b} {r} w h k =
 
 -- the list tables and the tree, as the program lends them
 pub record Roomy (before : Columns) (lent : List ℕ) : Type 0 where
-  pub conditions-lent : length (before .conditions) ≡ capacity
-  pub actions-lent : length (before .actions) ≡ capacity
-  pub parents-lent : length (before .parents) ≡ capacity
-  pub depths-lent : length (before .depths) ≡ capacity
+  pub conditions-lent : leb capacity (length (before .conditions)) ≡ true
+  pub actions-lent : leb capacity (length (before .actions)) ≡ true
+  pub parents-lent : leb capacity (length (before .parents)) ≡ true
+  pub depths-lent : leb capacity (length (before .depths)) ≡ true
   pub tree-lent : length lent ≡ treeRoom
 
-module _ (table start : List ℕ) (reading : Reading) {before : Columns} {lent : List ℕ} (given : reading ≡ readingOf start) (k : Roomy before lent) where
+module _ (table start : List ℕ) (reading : Reading) {before : Columns} {lent : List ℕ} (given : PlannedFrom start reading) (k : Roomy before lent) where
+  roomy : (capacity ≤ length (before .conditions)) × (capacity ≤ length (before .actions)) × (capacity ≤ length (before .parents)) × (capacity ≤ length (before .depths))
+  roomy = (leb-true _ _ (k .conditions-lent), leb-true _ _ (k .actions-lent), leb-true _ _ (k .parents-lent), leb-true _ _ (k .depths-lent))
+
   room-is : room before ≡ capacity
   unfolding capacityOf
-  room-is = omega (arith, k .conditions-lent, k .actions-lent, k .parents-lent, k .depths-lent)
+  room-is = omega (arith, roomy)
 
   -- the plan that is made is the one that these bytes ask for
   abbrev made : Laid Summary
@@ -157,12 +162,12 @@ module _ (table start : List ℕ) (reading : Reading) {before : Columns} {lent :
 
   made-is : made ≡ laidFiles table start
   unfolding laidFiles
-  made-is = rw (given, room-is, k .tree-lent) (by (eqb (length start) startSize))
+  made-is = rw (room-is, k .tree-lent) (by (eqb (length start) startSize) refl)
     where
-      by : (b : Bool) → laid table (if b then startOf start else unsound) capacity treeRoom
-          ≡ (if b then laid table (startOf start) capacity treeRoom else noStart (readTable table))
-      by true = refl
-      by false = laid-unsound table capacity treeRoom
+      by : (b : Bool) → eqb (length start) startSize ≡ b
+          → laid table reading capacity treeRoom ≡ (if b then laid table (startOf start) capacity treeRoom else noStart (readTable table))
+      by true e = ap (λ (r : Reading). laid table r capacity treeRoom) (given .of-start (eqb-true (length start) startSize e))
+      by false e = laid-unsound table reading (given .of-other (eqb-false (length start) startSize e)) capacity treeRoom
 
   text-is : (a : Checked Summary) → a ≡ made .answer → answerText a (made .list) ≡ programText table start
   unfolding programText
@@ -175,8 +180,8 @@ module _ (table start : List ℕ) (reading : Reading) {before : Columns} {lent :
     sized : ListOf made s (room before)
     sized = laid-list (room before) (length lent) s table reading (sym answered)
 
-    column-length : (f : Entry ℕ → ℕ) (xs ys : List ℕ) → ys ≡ over f (made .list) xs → length xs ≡ capacity → length ys ≡ capacity
-    column-length f xs ys q h = ap length q ∙ over-length (made .list) f xs (omega (arith, sized .fits, room-is)) ∙ h
+    column-length : (f : Entry ℕ → ℕ) (xs ys : List ℕ) → ys ≡ over f (made .list) xs → capacity ≤ length xs → capacity ≤ length ys
+    column-length f xs ys q h = omega (arith, ap length q, over-length (made .list) f xs (omega (arith, sized .fits, room-is)))
 
     all-shown : shownIn s after ≡ length (made .list)
     all-shown =
@@ -185,10 +190,10 @@ module _ (table start : List ℕ) (reading : Reading) {before : Columns} {lent :
           sized .size,
           sized .fits,
           room-is,
-          column-length _ _ _ (p .lays .conditions) (k .conditions-lent),
-          column-length _ _ _ (p .lays .actions) (k .actions-lent),
-          column-length _ _ _ (p .lays .parents) (k .parents-lent),
-          column-length _ _ _ (p .lays .depths) (k .depths-lent),
+          column-length _ _ _ (p .lays .conditions) (roomy .0),
+          column-length _ _ _ (p .lays .actions) (roomy .1),
+          column-length _ _ _ (p .lays .parents) (roomy .2),
+          column-length _ _ _ (p .lays .depths) (roomy .3),
         )
 
     list-shown : held after (shownIn s after) ≡ made .list
@@ -199,3 +204,7 @@ module _ (table start : List ℕ) (reading : Reading) {before : Columns} {lent :
   pub planned-text : {after : Columns} {tree : List ℕ} (r : Planned) → Plans table reading before after lent tree r → plannedText r after ≡ programText table start
   planned-text (P.Refused x) p = text-is (answerOf (P.Refused x)) (p .lays .answer-and-tree .answer)
   planned-text (P.Built s) p = rw (list-shown s p) (text-is (accepted s) (answered s p))
+
+  pub planned-entries : {after : Columns} {tree : List ℕ} (r : Planned) → Plans table reading before after lent tree r → entriesIn r ≤ capacity
+  planned-entries (P.Refused x) p = omega arith
+  planned-entries (P.Built s) p = let z = sized s p in omega (arith, z .size, z .fits, room-is)

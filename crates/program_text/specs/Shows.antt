@@ -1,13 +1,13 @@
 -- What the program lends to make its text, and what it finds there: the text that is due, whole, at the front of a lent slice.
 -- Definitions only.
 use mathlib.Core.Path.{_≡_}
+use mathlib.Core.Bool.{false}
 use mathlib.Core.List.{List}
 use Prim.Native.Nat.{ℕ, _+_, _*_, _≤_}
-use lib.Dec.{eqb}
 use lib.ListN.{length, take}
-use Rattle.base.specs.Bools.{if_then_else_}
 use Rattle.refusal.specs.Numbers.{numberOf}
 use Rattle.reading.specs.declared.Reading.{Reading}
+use Rattle.reading.specs.Reading.{sound}
 use Rattle.expander.specs.Expands.{Columns, held}
 use Rattle.planner.specs.declared.Planned.{Planned}
 use Rattle.planner.specs.declared.Planned.the-variants as P
@@ -41,17 +41,19 @@ pub record Prints (table : List ℕ) (n : ℕ) (start : List ℕ) (m : ℕ) (out
   pub counted : count ≡ length (take count out)
   pub prints : (tableFile startFile : List ℕ) → Holds table n tableFile → Holds start m startFile → take count out ≡ programText tableFile startFile
 
--- a reading that is never sound: one fact is both held and unread
-abbrev pub unsound : Reading
-unsound = record { held = 1; unread = 1 }
-
--- the reading that is planned from: a start of another length is one that is never sound
-abbrev pub readingOf : List ℕ → Reading
-readingOf start = if eqb (length start) startSize then startOf start else unsound
+-- the reading that is planned from: the start's, or, for a file of another length, one that no table takes
+pub record PlannedFrom (start : List ℕ) (r : Reading) : Type 0 where
+  pub of-start : length start ≡ startSize → r ≡ startOf start
+  pub of-other : (length start ≡ startSize → ⊥) → (facts : ℕ) → sound facts r ≡ false
 
 -- how many entries of the list tables a plan shows
 abbrev pub shownIn : Summary → Columns → ℕ
 shownIn s lists = shown (s .entries) (lists .conditions) (lists .actions) (lists .parents) (lists .depths)
+
+-- how many entries a plan's answer tells
+abbrev pub entriesIn : Planned → ℕ
+entriesIn (P.Refused x) = 0
+entriesIn (P.Built s) = s .entries
 
 -- the text of a plan's answer, whose list stands in the list tables
 abbrev pub plannedText : Planned → Columns → List ℕ

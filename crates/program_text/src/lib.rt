@@ -1,12 +1,11 @@
 // The text of the program of document 01, "A trailer on the hitch", made from what was read of `bay.tab` and `start.bay`.
 use planner::Planned;
 use reading::Reading;
-ghost use mathlib.Core.Path.{_≡_};
 ghost use Prim.Native.Nat.{_≤_};
 ghost use lib.ListN.{length};
 ghost use Rattle.expander.specs.Expands.{columns};
 ghost use Rattle.program_text.specs.Program.{capacity};
-ghost use Rattle.program_text.specs.Shows.{Lent, Shows, Prints, textRoom, readingOf, plannedText};
+ghost use Rattle.program_text.specs.Shows.{Lent, Shows, Prints, textRoom, PlannedFrom, entriesIn, plannedText};
 
 // The bytes of a start: two masks.
 pub const START_SIZE: usize = 16;
@@ -18,7 +17,7 @@ const TREE_BYTES: usize = 65_535;
 
 // The start. For a file of another length it is one that no table takes: a fact both held and unread.
 fn start_of(start: &[u8]) -> Reading
-    ensures { λ r. ⌜ r ≡ readingOf (now (start .entry)) ⌝ }
+    ensures { λ r. ⌜ PlannedFrom (now (start .entry)) r ⌝ }
 {
     if start.len() != START_SIZE {
         return Reading { held: 1, unread: 1 };
@@ -37,7 +36,7 @@ fn write_answer(
     depths: &[u16],
     out: &mut [u8],
 ) -> usize
-    requires { ⌜ (length (now conditions) ≤ capacity) × (textRoom ≤ length (now out)) ⌝ }
+    requires { ⌜ (entriesIn planned ≤ capacity) × (textRoom ≤ length (now out)) ⌝ }
     ensures { λ r. ⌜ Shows (plannedText planned (columns (now (conditions .entry)) (now (actions .entry)) (now (parents .entry)) (now (depths .entry)))) (now (out .exit)) r ⌝ }
 {
     match planned {

@@ -72,12 +72,13 @@ returns-2 c =
     let s = told .before .planned2 .given .0 .0 in
     let l = lists k in
     let n = shownIn s l in
-    let most : n ≤ capacity = omega (arith, entry-of k .pre) in
+    let told-by = told .before .planned2 .given .1 in
+    let most : n ≤ capacity = omega (arith, rw told-by at (entry-of k .pre .0)) in
     let g = told .known-told2 .given in
     let size =
     plan-length (s .entries) (s .bytes) (entryAt (l .conditions) (l .actions) (l .parents) (l .depths)) n (s .jobs) (s .minutes)
     (omega (arith, g)) (omega (arith, g)) (omega (arith, g)) (omega (arith, g)) (omega (arith, most)) (λ i h. small k i) in
-    rw (told .before .planned2 .given .1) (shown-whole (w .ensures) (omega (arith, entry-of k .pre, most, size)) (w .kept .1 .1 .1 .1 .1 .1 .1 .1 .0))
+    rw told-by (shown-whole (w .ensures) (omega (arith, entry-of k .pre .1, most, size)) (w .kept .1 .1 .1 .1 .1 .1 .1 .1 .0))
 
 pub write-answer-spec : {M : Type 1} → statement M
 write-answer-spec =
