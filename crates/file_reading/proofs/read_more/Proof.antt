@@ -30,9 +30,10 @@ same-length c = search needs
 
 returns : tie.Need-returns
 returns c =
-    let read = c .before .before .before .read in
+    let done = c .before .before .before in
+    let read = done .read in
     let fits : SFits w64 (read .result) = record { sfits = read .ok } in
-    let s = c .before .before .before .before .before .before in
+    let s = done .before .before .before in
     let buf = s .args .buf .now in
     record {
       kept = take-put (s .args .done) (length buf - s .args .done) buf (read .last .1 .0) (s .pre);

@@ -34,7 +34,8 @@ same-length c = search needs
 
 returns : tie.Need-returns
 returns c =
-    let depth = c .before .before .before .before .before .before in
+    let end = c .before .before in
+    let depth = end .before .before .before .before in
     let parent = depth .before .before .before .before in
     let job = parent .before .before .before .before in
     let space = job .before .before .before .before in
@@ -45,7 +46,7 @@ returns c =
     (put-then (mask .put-mask .ensures)
     (put-then (space .put-byte2 .ensures)
     (put-then (job .put-job .ensures)
-    (put-then (parent .put-next .ensures) (put-then (depth .put-next2 .ensures) (c .before .before .put-byte3 .ensures)))))))
+    (put-then (parent .put-next .ensures) (put-then (depth .put-next2 .ensures) (end .put-byte3 .ensures)))))))
 
 pub put-entry-spec : {M : Type 1} → statement M
 put-entry-spec =

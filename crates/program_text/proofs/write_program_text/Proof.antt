@@ -21,9 +21,9 @@ read-of c = c .before .before .before .before .before .before
 abbrev lent-of : tie.After-plan → tie.Start
 lent-of c = entry-of (read-of c .before .before .before)
 
--- the list tables and the tree are back
-abbrev plan-of : tie.After-tree2 → tie.After-plan
-plan-of c = c .before .before .before .before .before
+-- the list tables are lent once more
+abbrev plan-of : tie.After-depths3 → tie.After-plan
+plan-of c = c .before .before .before .before .before .before .before .before .before
 
 -- ---- the answers, in the order of the code
 
@@ -68,7 +68,7 @@ slice-aggregate-write-answer-4 c = search needs
 
 write-answer-requires : tie.Need-write-answer-requires
 write-answer-requires c κs =
-    let p = plan-of (c .before .before .before .before .before) in
+    let p = plan-of (c .before) in
     let s = lent-of p in (
       planned-entries (take (s .args .n) (s .args .table .now)) (take (s .args .m) (s .args .start .now)) _ (read-of p .start-of .ensures)
           (record { conditions-lent = refl; actions-lent = refl; parents-lent = refl; depths-lent = refl; tree-lent = refl }) _ (p .plan .ensures),
@@ -81,7 +81,7 @@ same-length c = search needs
 returns : tie.Need-returns
 returns c =
     let w = c .before .before in
-    let p = plan-of (w .before .before .before .before .before .before) in
+    let p = plan-of (w .before .before) in
     let s = lent-of p in
     let l = s .pre in
     let a = w .write-answer .ensures in
