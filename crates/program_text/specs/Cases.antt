@@ -27,12 +27,15 @@ lines (s ∷ rest) = ascii s ++ (ascii "\n" ++ lines rest)
 abbrev startBytes : ℕ → ℕ → List ℕ
 startBytes held unread = toBytes 8 held ++ toBytes 8 unread
 
--- P1; P3 with lists of 4,096; a start with an unread fact; a start of 15 bytes; a table that is cut, with no start at all
+-- P1; P3 with lists of 4,096; a start with an unread fact; starts of 15 and 17 bytes; a table with a byte more; one that is cut, with no start
+-- at all
 pub printed : map (λ (f : List ℕ × List ℕ). programText (f .0) (f .1))
     ((trailerBytes, startBytes 0x02 0)
     ∷ (trailerBytes, startBytes 0x08 0)
     ∷ (trailerBytes, startBytes 0x02 0x08)
     ∷ (trailerBytes, take 15 (startBytes 0x02 0))
+    ∷ (trailerBytes, startBytes 0x02 0 ++ (0x00 ∷ []))
+    ∷ (trailerBytes ++ (0x00 ∷ []), startBytes 0x02 0)
     ∷ (take 146 trailerBytes, [])
     ∷ [])
     ≡ lines
@@ -50,6 +53,8 @@ pub printed : map (λ (f : List ℕ × List ℕ). programText (f .0) (f .1))
     ∷ lines ("refused 11 9" ∷ [])
     ∷ lines ("refused 9 0" ∷ [])
     ∷ lines ("refused 8 0" ∷ [])
+    ∷ lines ("refused 8 0" ∷ [])
+    ∷ lines ("refused 7 147" ∷ [])
     ∷ lines ("refused 1 146" ∷ [])
     ∷ []
 unfolding programText laidFiles laid laidFrom laidFor sound expand expandFrom expandEntry listed subset intersects union difference within relevant regressed nearest treeBytes laterEntries laterBytes conditionBytes readTable readJobs readGoal readEnd due judged jobAt commandAt widthOf numberAt fromBytes toBytes planText refusedText entriesText digits placesIn places
