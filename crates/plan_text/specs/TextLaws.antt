@@ -1,17 +1,16 @@
 -- How long the texts are, and that a slice with room for a text holds it whole.
 -- Assumes nothing.
-use borrow.Author.Tests.{lt-ltb, le-ltb}
-use native.Mathlib.Nat.{pow-suc}
-use native.Mathlib.Decide.{decLe}
 use native.Mathlib.Omega.{arith}
 use mathlib.Core.Path.{_≡_, refl, sym, ap, _∙_}
 use mathlib.Core.List.{List, [], _∷_, _++_}
-use Prim.Native.Nat.{ℕ, zero, suc, _+_, _*_, _/_, _^_, _≤_, _<_}
+use Prim.Native.Nat.{ℕ, zero, suc, _+_, _*_, _^_, _≤_, _<_}
 use lib.ListN.{length, take, drop, length-append}
 use lib.Seq.{take-all, take-at}
 use Rattle.base.specs.Lists.{prefix, length-prefix}
 use Rattle.planning.specs.Expansion.{Entry}
-use Rattle.plan_text.specs.Text.{ascii, digits, placesIn, places, decimal, maskText, line, jobText, entryText, entriesText, planText, refusedText}
+use Rattle.text_fields.specs.Fields.{ascii, decimal, maskText}
+use Rattle.text_fields.specs.DigitLaws.{digits-length, decimal-length}
+use Rattle.plan_text.specs.Text.{line, jobText, entryText, entriesText, planText, refusedText, entryLine, otherLines, refusedLine}
 use Rattle.plan_text.specs.Writes.{Wrote}
 use Rattle.plan_text.specs.WriteLaws.{entries-snoc}
 
@@ -22,26 +21,7 @@ wrote-whole {text} {a} {b} {r} w h =
     let e : r ≡ length text = omega (arith, w .counted) in
     (e, rw (w .lent, take-all (length a) text h) (take-at text (drop (length text) a) r (sym e)))
 
--- ---- fields
-
-digits-length : (base count n : ℕ) → length (digits base count n) ≡ count
-unfolding digits
-digits-length base zero n = refl
-digits-length base (suc k) n = ap suc (digits-length base k n)
-
-places-in-most : (k most n : ℕ) → n < 10 ^ suc k → placesIn most n ≤ suc k
-unfolding placesIn
-places-in-most k zero n h = omega arith
-places-in-most zero (suc most) n h = rw (lt-ltb n 10 h) (omega arith)
-places-in-most (suc k) (suc most) n h =
-    elim (decLe 10 n) [
-      | no l ↦ rw (lt-ltb n 10 (omega arith)) (omega arith)
-      | yes l ↦ rw (le-ltb n 10 l) (omega (arith, places-in-most k most (n / 10) (omega (arith, pow-suc 10 (suc k)))))
-    ]
-
-decimal-length : (k n : ℕ) → n < 10 ^ suc k → length (decimal n) ≤ suc k
-unfolding places
-decimal-length k n h = omega (arith, digits-length 10 (places n) n, places-in-most k n n h)
+-- ---- lines
 
 -- the fields' bytes, each with the separator or line feed after it
 total : List (List ℕ) → ℕ
@@ -68,7 +48,7 @@ job-length : (i a : ℕ) → a < 2 ^ 8 → length (jobText i a) ≤ 3
 job-length zero a h = omega arith
 job-length (suc i) a h = decimal-length 2 a (omega arith)
 
-entry-length : (i : ℕ) (e : Entry ℕ) → i < 10000 → Small e → length (entryText i e) ≤ 38
+entry-length : (i : ℕ) (e : Entry ℕ) → i < 10000 → Small e → length (entryText i e) ≤ entryLine
 unfolding total
 entry-length i e h s =
     let fields = maskText (e .condition) ∷ jobText i (e .action) ∷ decimal (e .parent) ∷ decimal (e .depth) ∷ [] in
@@ -82,7 +62,7 @@ entry-length i e h s =
       decimal-length 4 (e .depth) (omega (arith, s .depth-small)),
     )
 
-entries-length : (f : ℕ → Entry ℕ) (n : ℕ) → n ≤ 10000 → ((i : ℕ) → i < n → Small (f i)) → length (entriesText 0 (prefix f n)) ≤ 38 * n
+entries-length : (f : ℕ → Entry ℕ) (n : ℕ) → n ≤ 10000 → ((i : ℕ) → i < n → Small (f i)) → length (entriesText 0 (prefix f n)) ≤ entryLine * n
 unfolding entriesText
 entries-length f zero h s = omega arith
 entries-length f (suc n) h s =
@@ -95,13 +75,13 @@ entries-length f (suc n) h s =
       entry-length n (f n) (omega arith) (s n (omega arith)),
     ))
 
-pub refused-length : (number place : ℕ) → number < 2 ^ 8 → place < 2 ^ 64 → length (refusedText number place) ≤ 33
+pub refused-length : (number place : ℕ) → number < 2 ^ 8 → place < 2 ^ 64 → length (refusedText number place) ≤ refusedLine
 unfolding refusedText total
 refused-length number place h k =
     omega (arith, line-length (ascii "refused") (decimal number ∷ decimal place ∷ []), decimal-length 2 number (omega arith), word-length place k)
 
 pub plan-length : (entries bytes : ℕ) (f : ℕ → Entry ℕ) (n jobs minutes : ℕ) → entries < 2 ^ 64 → bytes < 2 ^ 64 → jobs < 2 ^ 64 → minutes < 2 ^ 32
-    → n ≤ 10000 → ((i : ℕ) → i < n → Small (f i)) → length (planText entries bytes (prefix f n) jobs minutes) ≤ 83 + 38 * n
+    → n ≤ 10000 → ((i : ℕ) → i < n → Small (f i)) → length (planText entries bytes (prefix f n) jobs minutes) ≤ otherLines + entryLine * n
 unfolding planText total
 plan-length entries bytes f n jobs minutes e b j m h s =
     let first = line (ascii "plan") (decimal entries ∷ decimal bytes ∷ []) in

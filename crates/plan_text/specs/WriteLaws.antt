@@ -1,24 +1,20 @@
--- Laws of texts that are put into a lent slice part by part.
+-- Laws of a plan's text that is put into a lent slice line by line.
 -- Assumes nothing.
 use native.Mathlib.Nat.{add-zero}
 use native.Mathlib.Numerals.{add-one}
-use native.Mathlib.Decide.{decLe}
 use native.Mathlib.Omega.{arith}
 use mathlib.Core.Path.{_≡_, refl, sym, ap, _∙_}
 use mathlib.Core.List.{List, [], _∷_, _++_, append-assoc, append-nil}
-use Prim.Native.Nat.{ℕ, zero, suc, _+_, _≤_}
-use lib.ListN.{length, set, take, drop, length-append}
-use lib.Seq.{sets, set-out, length-sets}
+use Prim.Native.Nat.{ℕ, zero, suc, _+_}
+use lib.ListN.{length, set, take, drop}
+use lib.Seq.{sets}
 use Rattle.base.specs.Lists.{prefix, length-prefix}
-use Rattle.numbers.specs.NumberLaws.{sets-append}
+use Rattle.text_fields.specs.Fields.{decimal}
+use Rattle.text_fields.specs.Puts.{Put}
+use Rattle.text_fields.specs.PutLaws.{sets-out, put-then}
 use Rattle.planning.specs.Expansion.{Entry}
-use Rattle.plan_text.specs.Text.{decimal, jobText, entryText, entriesText}
-use Rattle.plan_text.specs.Writes.{Put, Wrote}
-
--- stores past the end are dropped
-sets-out : (l : List ℕ) (at : ℕ) (xs : List ℕ) → length l ≤ at → sets l at xs ≡ l
-sets-out l at [] h = refl
-sets-out l at (x ∷ xs) h = rw (set-out l at x h) (sets-out l (suc at) xs (omega arith))
+use Rattle.plan_text.specs.Text.{jobText, entryText, entriesText}
+use Rattle.plan_text.specs.Writes.{Wrote}
 
 sets-cons : (x : ℕ) (l : List ℕ) (at : ℕ) (xs : List ℕ) → sets (x ∷ l) (suc at) xs ≡ x ∷ sets l at xs
 sets-cons x l at [] = refl
@@ -29,35 +25,6 @@ sets-front [] [] = refl
 sets-front [] (y ∷ l) = refl
 sets-front (x ∷ xs) [] = sets-out [] 1 xs (omega arith)
 sets-front (x ∷ xs) (y ∷ l) = sets-cons x l 0 xs ∙ ap (λ (t : List ℕ). x ∷ t) (sets-front xs l)
-
-pub put-none : (l : List ℕ) (at : ℕ) → at ≤ length l → Put l l at at []
-put-none l at h = record { stored = refl; ends = omega arith }
-
--- a byte that has no room
-pub put-dropped : (l : List ℕ) (at byte : ℕ) → at ≤ length l → length l ≤ at → Put l l at at (byte ∷ [])
-put-dropped l at byte h k = record { stored = sym (set-out l at byte k); ends = omega arith }
-
-pub put-length : {a b : List ℕ} {i j : ℕ} {xs : List ℕ} → Put a b i j xs → length b ≡ length a
-put-length {a} {b} {i} {j} {xs} p = ap length (p .stored) ∙ length-sets a i xs
-
-pub put-within : {a b : List ℕ} {i j : ℕ} {xs : List ℕ} → Put a b i j xs → j ≤ length b
-put-within p = omega (arith, p .ends, put-length p)
-
--- one part after another
-pub put-then : {a b c : List ℕ} {i j k : ℕ} {xs ys : List ℕ} → Put a b i j xs → Put b c j k ys → Put a c i k (xs ++ ys)
-put-then {a} {b} {c} {i} {j} {k} {xs} {ys} p q =
-    record {
-      stored =
-          q .stored ∙ rw (p .stored)
-          (elim (decLe (i + length xs) (length a)) [
-            | yes h ↦ let e : j ≡ i + length xs = omega (arith, p .ends) in rw e (sym (sets-append a i xs ys))
-            | no h ↦
-                let size = length-sets a i xs in
-                sets-out (sets a i xs) j ys (omega (arith, p .ends, size))
-                ∙ sym (sets-append a i xs ys ∙ sets-out (sets a i xs) (i + length xs) ys (omega (arith, size)))
-          ]);
-      ends = rw (length-append xs ys) (omega (arith, p .ends, q .ends, put-length p));
-    }
 
 pub put-wrote : {a b : List ℕ} {r : ℕ} {text : List ℕ} → Put a b 0 r text → Wrote text a b r
 put-wrote {a} {b} {r} {text} p = record { counted = omega (arith, p .ends); lent = p .stored ∙ sets-front text a }

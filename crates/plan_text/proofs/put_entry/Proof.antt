@@ -1,7 +1,7 @@
 -- `plan_text::put_entry` meets its contract: one part after another.
 -- Assumes nothing.
 use borrow.Author.Needs.{needs}
-use Rattle.plan_text.specs.WriteLaws.{put-then, put-within}
+use Rattle.text_fields.specs.PutLaws.{put-then}
 use Rattle.plan_text.proofs.put_entry.Statement.{statement}
 use Rattle.plan_text.proofs.put_entry.Tie as tie
 
@@ -27,14 +27,15 @@ put-next-requires-2 : tie.Need-put-next-requires-2
 put-next-requires-2 c κs = search needs
 
 put-byte-requires-3 : tie.Need-put-byte-requires-3
-put-byte-requires-3 c κs = put-within (c .before .before .before .put-next2 .ensures)
+put-byte-requires-3 c κs = search needs
 
 same-length : tie.Need-same-length
 same-length c = search needs
 
 returns : tie.Need-returns
 returns c =
-    let depth = c .before .before .before .before .before .before in
+    let end = c .before .before in
+    let depth = end .before .before .before .before in
     let parent = depth .before .before .before .before in
     let job = parent .before .before .before .before in
     let space = job .before .before .before .before in
@@ -45,7 +46,7 @@ returns c =
     (put-then (mask .put-mask .ensures)
     (put-then (space .put-byte2 .ensures)
     (put-then (job .put-job .ensures)
-    (put-then (parent .put-next .ensures) (put-then (depth .put-next2 .ensures) (c .before .before .put-byte3 .ensures)))))))
+    (put-then (parent .put-next .ensures) (put-then (depth .put-next2 .ensures) (end .put-byte3 .ensures)))))))
 
 pub put-entry-spec : {M : Type 1} → statement M
 put-entry-spec =

@@ -12,7 +12,7 @@ same-length : tie.Need-same-length
 same-length c = search needs
 
 returns : tie.Need-returns
-returns c = rw (c .before .before .before .before .if1 .taken) (c .before .before .put-byte .ensures)
+returns c = let put = c .before .before in rw (put .before .before .if1 .taken) (put .put-byte .ensures)
 
 put-decimal-requires : tie.Need-put-decimal-requires
 put-decimal-requires c κs = search needs
@@ -22,8 +22,10 @@ same-length-2 c = search needs
 
 returns-2 : tie.Need-returns-2
 returns-2 c =
-    let a = c .before .before .before .before .before .before .args in
-    rw (later-job (a .entry) (a .job) (c .before .before .before .before .if1 .left)) (c .before .before .put-decimal .ensures)
+    let put = c .before .before in
+    let later = put .before .before in
+    let a = later .before .before .args in
+    rw (later-job (a .entry) (a .job) (later .if1 .left)) (put .put-decimal .ensures)
 
 pub put-job-spec : {M : Type 1} → statement M
 put-job-spec =

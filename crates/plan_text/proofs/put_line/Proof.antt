@@ -1,7 +1,7 @@
 -- `plan_text::put_line` meets its contract: one part after another.
 -- Assumes nothing.
 use borrow.Author.Needs.{needs}
-use Rattle.plan_text.specs.WriteLaws.{put-then}
+use Rattle.text_fields.specs.PutLaws.{put-then}
 use Rattle.plan_text.proofs.put_line.Statement.{statement}
 use Rattle.plan_text.proofs.put_line.Tie as tie
 
@@ -22,9 +22,10 @@ same-length c = search needs
 
 returns : tie.Need-returns
 returns c =
-    let number = c .before .before .before .before .before .before in
+    let end = c .before .before in
+    let number = end .before .before .before .before in
     let first = number .before .before .before .before in
-    put-then (first .before .before .before .before .put-bytes .ensures) (put-then (first .put-next .ensures) (put-then (number .put-next2 .ensures) (c .before .before .put-byte .ensures)))
+    put-then (first .before .before .before .before .put-bytes .ensures) (put-then (first .put-next .ensures) (put-then (number .put-next2 .ensures) (end .put-byte .ensures)))
 
 pub put-line-spec : {M : Type 1} → statement M
 put-line-spec =

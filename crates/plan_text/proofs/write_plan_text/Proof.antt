@@ -4,7 +4,8 @@ use borrow.Author.Needs.{needs}
 use mathlib.Core.Path.{_≡_, ap, _∙_}
 use Prim.Native.Nat.{min}
 use Rattle.plan_text.specs.Text.{planText}
-use Rattle.plan_text.specs.WriteLaws.{put-then, put-wrote}
+use Rattle.text_fields.specs.PutLaws.{put-then}
+use Rattle.plan_text.specs.WriteLaws.{put-wrote}
 use Rattle.plan_text.proofs.write_plan_text.Statement.{statement}
 use Rattle.plan_text.proofs.write_plan_text.Tie as tie
 
@@ -41,14 +42,15 @@ same-length c = search needs
 returns : tie.Need-returns
 unfolding planText
 returns c =
-    let list = c .before .before .before .before .before .before .before in
+    let last = c .before .before in
+    let list = last .before .before .before .before .before in
     let head = list .before .before .before .before in
     let least = head .before .before .before in
     let n =
     least .least4 .ensures
     ∙ ap (min _) (least .before .least3 .ensures ∙ ap (min _) (least .before .before .least2 .ensures ∙ ap (min _) (least .before .before .before .least .ensures)))
     in
-    put-wrote (put-then (head .put-line .ensures) (put-then (rw n at (list .put-entries .ensures)) (c .before .before .put-line2 .ensures)))
+    put-wrote (put-then (head .put-line .ensures) (put-then (rw n at (list .put-entries .ensures)) (last .put-line2 .ensures)))
 
 pub write-plan-text-spec : {M : Type 1} → statement M
 write-plan-text-spec =

@@ -1,5 +1,0 @@
-pub mod Program
-pub mod Cases
-pub mod Shows
-pub mod ProgramLaws
-pub mod FrontLaws

@@ -1,0 +1,6 @@
+pub mod Program
+pub mod Files
+pub mod Shows
+pub mod ProgramLaws
+pub mod FrontLaws
+pub mod Cases
