@@ -13,8 +13,9 @@ use Rattle.refusal.specs.declared.Refusal.{Refusal}
 use Rattle.refusal.specs.Checked.{Checked, accepted, refused, refusedBy, andThen}
 use Rattle.reading.specs.declared.Reading.{Reading}
 use Rattle.reading.specs.Reading.{sound}
-use Rattle.table.specs.declared.Job.{Job}
-use Rattle.table.specs.Table.{Table, maxSeconds}
+use Rattle.job.specs.declared.Job.{Job}
+use Rattle.job.specs.Validation.{maxSeconds}
+use Rattle.table.specs.Table.{Table}
 use Rattle.table.specs.Read.{readTable, namedJob}
 use Rattle.minutes.specs.Minutes.{minutesOf}
 use Rattle.card.specs.declared.Card.{Card}
@@ -97,7 +98,7 @@ judged j taken c =
 
 -- "A report has a job and its taken seconds": the table's own stops, 8 with the card's own masks, 16 with the job's number, 17, 18
 unfoldable pub reported : List ℕ → JobReport → Card → Checked Card
-reported table x c = andThen (tableFor table (masksOf c)) λ t. andThen (namedJob t (x .job)) λ j. judged j (x .taken) c
+reported table x c = andThen (tableFor table (masksOf c)) λ t. andThen (namedJob t (x .job) 0) λ j. judged j (x .taken) c
 
 -- "The lateness is taken minus planned, with its sign, in whole minutes .. It is read off every card, sound or not."
 unfoldable pub latenessOf : Card → ℤ

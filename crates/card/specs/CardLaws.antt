@@ -14,8 +14,9 @@ use Rattle.refusal.specs.Checked.{Checked, accepted, refused, refusedBy}
 use Rattle.refusal.specs.CheckedLaws.{accepted-then, accepted-if, accepted-same}
 use Rattle.reading.specs.declared.Reading.{Reading}
 use Rattle.reading.specs.Reading.{sound}
-use Rattle.table.specs.declared.Job.{Job}
-use Rattle.table.specs.Table.{Table, noJob}
+use Rattle.job.specs.declared.Job.{Job}
+use Rattle.job.specs.Job.{noJob}
+use Rattle.table.specs.Table.{Table}
 use Rattle.table.specs.Read.{readTable, jobsOf, namedJob}
 use Rattle.card.specs.declared.Card.{Card}
 use Rattle.card.specs.declared.JobReport.{JobReport}

@@ -19,11 +19,12 @@ use Rattle.numbers.specs.Numbers.{AreBytes}
 use Rattle.reading.specs.declared.Reading.{Reading}
 use Rattle.reading.specs.Reading.{sound, Completes, state}
 use Rattle.reading.specs.ReadingLaws.{sound-held, sound-unread, sound-apart}
-use Rattle.table.specs.declared.Job.{Job}
-use Rattle.table.specs.Table.{Table, noJob}
+use Rattle.job.specs.declared.Job.{Job}
+use Rattle.job.specs.Job.{noJob}
+use Rattle.table.specs.Table.{Table}
 use Rattle.table.specs.Read.{readTable, namedJob}
-use Rattle.table.specs.Sound.{SoundJob}
-use Rattle.table.specs.RoundTrip.{read-sound}
+use Rattle.job.specs.Validation.{SoundJob}
+use Rattle.table.specs.RoundTripLaws.{read-sound}
 use Rattle.card.specs.declared.Card.{Card}
 use Rattle.card.specs.declared.JobReport.{JobReport}
 use Rattle.card.specs.Card.{masksOf, newCard, withMasks, applicable, finished, withReport, maxReports, maxTaken, maxListed, exhausted, tableFor, outsideRead, judged, reported, answer}
@@ -155,9 +156,9 @@ pub record Accepted (s : List ℕ) (x : JobReport) (c d : Card) : Type 0 where
 pub report-told : (s : List ℕ) (x : JobReport) (c d : Card) → reported s x c ≡ accepted d → Accepted s x c d
 unfolding reported namedJob judged
 report-told s x c d e =
-    let a = accepted-then (tableFor s (masksOf c)) (λ t. andThen (namedJob t (x .job)) λ j. judged j (x .taken) c) d e in
+    let a = accepted-then (tableFor s (masksOf c)) (λ t. andThen (namedJob t (x .job) 0) λ j. judged j (x .taken) c) d e in
     let t = a .0 in
-    let b = accepted-then (namedJob t (x .job)) (λ j. judged j (x .taken) c) d (a .2) in
+    let b = accepted-then (namedJob t (x .job) 0) (λ j. judged j (x .taken) c) d (a .2) in
     let j = b .0 in
     let n = accepted-if (ltb (x .job) (length (t .jobs))) (accepted (getD (t .jobs) (x .job) noJob)) 16 0 j (b .1) in
     let k = accepted-if (applicable j (masksOf c)) (if exhausted c then refused 18 0 else accepted (withReport j (x .taken) c)) 17 0 d (b .2) in

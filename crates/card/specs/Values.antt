@@ -7,7 +7,7 @@ use lib.IntN.{pos, negsuc}
 use Rattle.masks.specs.Sets.{subset, union, difference}
 use Rattle.masks.specs.Effects.{applied}
 use Rattle.refusal.specs.Checked.{accepted, refused}
-use Rattle.table.specs.declared.Job.{Job}
+use Rattle.job.specs.declared.Job.{Job}
 use Rattle.minutes.specs.Minutes.{nearest, minutesOf}
 use Rattle.card.specs.declared.Card.{Card}
 use Rattle.card.specs.Card.{newCard, applicable, finished, withReport, exhausted, judged, latenessOf}

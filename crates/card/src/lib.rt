@@ -1,15 +1,15 @@
 // The job card of a vehicle: opened with a reading, read again from outside, and updated by each report of a finished job
 // (document 01, "Job card").
+use job::Job;
 use reading::Reading;
 use refusal::Reason;
 use refusal::Refusal;
-use table::Job;
 use table::TableRead;
 use tree::Ticked;
 ghost use mathlib.Core.Path.{_≡_};
 ghost use mathlib.Core.Bool.{false};
 ghost use lib.IntN.{pos, _-ℤ_};
-ghost use Rattle.table.specs.Read.{answerOf, headed};
+ghost use Rattle.table.specs.Read.{tableReadOf, headed};
 ghost use Rattle.tree.specs.TickBytes.{Answers};
 ghost use Rattle.card.specs.Card.{masksOf, newCard, withMasks, applicable, finished, withReport, exhausted, tableFor, opened, outsideRead, judged, reported, latenessOf, Updated};
 
@@ -20,7 +20,7 @@ pub const MAX_REPORTS: u16 = 65535;
 pub const MAX_TAKEN: u32 = 65535;
 
 // The most that one report adds to the planned seconds: the longest job that a table may list.
-pub const MAX_LISTED: u32 = table::MAX_SECONDS as u32;
+pub const MAX_LISTED: u32 = job::MAX_SECONDS as u32;
 
 pub struct Card {
     pub held: u64,
@@ -98,7 +98,7 @@ fn refused(card: Card, reason: Reason) -> Step
 
 // A table, and a reading under it.
 fn table_for(table: &[u8], reading: Reading) -> TableRead
-    ensures { λ r. ⌜ answerOf r ≡ headed (tableFor (now (table .entry)) reading) ⌝ }
+    ensures { λ r. ⌜ tableReadOf r ≡ headed (tableFor (now (table .entry)) reading) ⌝ }
 {
     match table::read_table(table) {
         TableRead::Refused(x) => TableRead::Refused(x),

@@ -13,7 +13,7 @@ use Rattle.table.specs.declared.Header.{Header}
 use Rattle.table.specs.Table.{Table}
 use Rattle.table.specs.Read.{readTable, jobsOf, headed}
 use Rattle.table.specs.ReadLaws.{headed-sound}
-use Rattle.table.specs.RoundTrip.{read-sound}
+use Rattle.table.specs.RoundTripLaws.{read-sound}
 use Rattle.planning.specs.Facts.{Actions}
 use Rattle.expander.specs.declared.Expanded.{Expanded}
 use Rattle.expander.specs.Expands.{Columns, actionsOf, Expands}

@@ -10,8 +10,9 @@ use Rattle.base.specs.Bools.{if_then_else_}
 use Rattle.refusal.specs.Checked.{Checked, accepted, refused, refusedBy}
 use Rattle.reading.specs.declared.Reading.{Reading}
 use Rattle.reading.specs.Reading.{sound}
-use Rattle.table.specs.declared.Job.{Job}
-use Rattle.table.specs.Table.{Table, noJob}
+use Rattle.job.specs.declared.Job.{Job}
+use Rattle.job.specs.Job.{noJob}
+use Rattle.table.specs.Table.{Table}
 use Rattle.table.specs.Read.{readTable}
 use Rattle.planning.specs.Domain.{Domain}
 use Rattle.planning.specs.Listing.{path}

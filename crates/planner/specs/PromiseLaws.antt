@@ -21,7 +21,7 @@ use Rattle.reading.specs.ReadingLaws.{sound-apart, completes-within, absent-com
 use Rattle.numbers.specs.Numbers.{AreBytes}
 use Rattle.table.specs.Table.{Table}
 use Rattle.table.specs.Read.{readTable}
-use Rattle.table.specs.RoundTrip.{read-sound}
+use Rattle.table.specs.RoundTripLaws.{read-sound}
 use Rattle.planning.specs.Domain.{Domain}
 use Rattle.planning.specs.Sequence.{Reaches}
 use Rattle.planning.specs.Listing.{Good}

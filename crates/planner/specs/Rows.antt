@@ -7,8 +7,9 @@ use mathlib.Core.Path.{_≡_, refl, sym, ap, _∙_, fun-ext}
 use mathlib.Core.List.{List, [], _∷_, _++_, map}
 use lib.ListN.{length, getD, take, drop, set, length-map, List·getD-map}
 use lib.Seq.{take-length, take-at}
-use Rattle.table.specs.declared.Job.{Job}
-use Rattle.table.specs.Table.{Table, maxJobs, noJob}
+use Rattle.job.specs.declared.Job.{Job}
+use Rattle.job.specs.Job.{noJob}
+use Rattle.table.specs.Table.{Table, maxJobs}
 use Rattle.planning.specs.Facts.{Actions}
 use Rattle.expander.specs.Expands.{actionsOf}
 use Rattle.expander.specs.ExpandsLaws.{count-rows}

@@ -6,10 +6,11 @@ use mathlib.Core.Path.{_≡_, ap}
 use mathlib.Core.List.{List, [], _∷_}
 use lib.ListN.{length, getD}
 use Rattle.numbers.specs.Numbers.{AreBytes}
-use Rattle.table.specs.declared.Job.{Job}
-use Rattle.table.specs.Table.{maxSeconds, noJob}
+use Rattle.job.specs.declared.Job.{Job}
+use Rattle.job.specs.Job.{noJob}
+use Rattle.job.specs.Validation.{maxSeconds}
 use Rattle.table.specs.Read.{readTable, jobsOf}
-use Rattle.table.specs.RoundTrip.{listed-in-time}
+use Rattle.table.specs.RoundTripLaws.{listed-in-time}
 use Rattle.planning.specs.Listing.{path}
 use Rattle.planning.specs.PathLaws.{path-short, path-step}
 use Rattle.planner.specs.Plan.{secondsOf}

@@ -2,7 +2,7 @@
 -- Assumes nothing.
 use borrow.Author.Needs.{needs}
 use mathlib.Core.Path.{sym, ap, _∙_}
-use Rattle.table.specs.Read.{answerOf}
+use Rattle.table.specs.Read.{tableReadOf}
 use Rattle.table.specs.ReadLaws.{headed-refused, headed-sound}
 use Rattle.card.specs.Card.{tableFor}
 use Rattle.card.specs.CardLaws.{updated-kept, updated-done, opened-refused, opened-done}
@@ -26,12 +26,12 @@ new-card-requires c κs = search needs
 
 returns : tie.Need-returns
 returns c =
-    let e = ap answerOf (sym (c .before .before .x .given .1)) ∙ c .before .before .before .before .table-for .ensures in
+    let e = ap tableReadOf (sym (c .before .before .x .given .1)) ∙ c .before .before .before .before .table-for .ensures in
     rw (c .kept .ensures) (updated-kept (opened-refused _ _ (headed-refused (tableFor _ _) e)))
 
 returns-2 : tie.Need-returns-2
 returns-2 c =
-    let e = ap answerOf (sym (c .before .enum-told .given .1)) ∙ c .before .before .before .table-for .ensures in
+    let e = ap tableReadOf (sym (c .before .enum-told .given .1)) ∙ c .before .before .before .table-for .ensures in
     let t = headed-sound (tableFor _ _) e in
     rw (c .new-card .ensures) (updated-done (opened-done _ _ (t .1)))
 

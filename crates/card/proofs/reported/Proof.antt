@@ -3,7 +3,7 @@
 use borrow.Author.Needs.{needs}
 use native.Mathlib.Omega.{arith}
 use mathlib.Core.Path.{sym, ap, _∙_}
-use Rattle.table.specs.Read.{answerOf}
+use Rattle.table.specs.Read.{tableReadOf}
 use Rattle.table.specs.ReadLaws.{headed-refused, headed-sound}
 use Rattle.card.specs.Card.{tableFor}
 use Rattle.card.specs.CardLaws.{updated-kept, for-jobs, report-refused, report-no-job, report-job}
@@ -31,7 +31,7 @@ cast-job c = search needs
 job-at-requires : tie.Need-job-at-requires
 job-at-requires c κs =
     let e = rw (c .before .before .before .before .before .before .masks-of .ensures) at (c .before .before .before .before .before .table-for .ensures) in
-    let t = headed-sound (tableFor _ _) (ap answerOf (sym (c .before .before .before .header .given .1)) ∙ e) in
+    let t = headed-sound (tableFor _ _) (ap tableReadOf (sym (c .before .before .before .header .given .1)) ∙ e) in
     rw (for-jobs _ _ (t .0) (t .1)) (omega (arith, ap (λ h. h .jobs) (t .2)))
 
 judge-requires : tie.Need-judge-requires
@@ -43,13 +43,13 @@ refused-requires c κs = search needs
 returns : tie.Need-returns
 returns c =
     let e = rw (c .before .before .before .before .before .masks-of .ensures) at (c .before .before .before .before .table-for .ensures) in
-    rw (c .kept .ensures) (updated-kept (report-refused _ _ _ (headed-refused (tableFor _ _) (ap answerOf (sym (c .before .before .x .given .1)) ∙ e))))
+    rw (c .kept .ensures) (updated-kept (report-refused _ _ _ (headed-refused (tableFor _ _) (ap tableReadOf (sym (c .before .before .x .given .1)) ∙ e))))
 
 returns-2 : tie.Need-returns-2
 returns-2 c =
     let m = c .before .before .before .before .before .before .before .before .masks-of .ensures in
     let e = rw m at (c .before .before .before .before .before .before .before .table-for .ensures) in
-    let t = headed-sound (tableFor _ _) (ap answerOf (sym (c .before .before .before .before .before .header .given .1)) ∙ e) in
+    let t = headed-sound (tableFor _ _) (ap tableReadOf (sym (c .before .before .before .before .before .header .given .1)) ∙ e) in
     let a = c .before .before .before .before .before .before .before .before .before .before .args in
     let q = report-job _ (a .report) (a .card) (t .0) (t .1) (omega (arith, ap (λ h. h .jobs) (t .2))) in
     rw q at (rw (c .before .job-at .ensures) at (c .judge .ensures))
@@ -58,7 +58,7 @@ returns-3 : tie.Need-returns-3
 returns-3 c =
     let m = c .before .before .before .before .before .before .before .masks-of .ensures in
     let e = rw m at (c .before .before .before .before .before .before .table-for .ensures) in
-    let t = headed-sound (tableFor _ _) (ap answerOf (sym (c .before .before .before .before .header .given .1)) ∙ e) in
+    let t = headed-sound (tableFor _ _) (ap tableReadOf (sym (c .before .before .before .before .header .given .1)) ∙ e) in
     rw (c .refused .ensures) (updated-kept (report-no-job _ _ _ (t .0) (t .1) (omega (arith, ap (λ h. h .jobs) (t .2)))))
 
 pub reported-spec : {M : Type 1} → statement M

@@ -4,7 +4,7 @@ use borrow.Author.Needs.{needs}
 use mathlib.Core.Path.{sym, ap, _∙_}
 use Rattle.refusal.specs.Checked.{accepted}
 use Rattle.reading.specs.Reading.{sound}
-use Rattle.table.specs.Read.{readTable, headed, answerOf}
+use Rattle.table.specs.Read.{readTable, headed, tableReadOf}
 use Rattle.table.specs.ReadLaws.{headed-refused, headed-sound}
 use Rattle.card.specs.CardLaws.{for-refused, for-sound, for-bad}
 use Rattle.card.proofs.table_for.Statement.{statement}
@@ -24,19 +24,19 @@ is-sound-requires c κs = search needs
 
 returns : tie.Need-returns
 returns c =
-    let e = ap answerOf (sym (c .before .x .given .1)) ∙ c .before .before .before .read-table .ensures in
+    let e = ap tableReadOf (sym (c .before .x .given .1)) ∙ c .before .before .before .read-table .ensures in
     ap headed (for-refused _ _ (headed-refused (readTable _) e))
 
 returns-2 : tie.Need-returns-2
 returns-2 c =
-    let e = ap answerOf (sym (c .before .before .before .header .given .1)) ∙ c .before .before .before .before .before .read-table .ensures in
+    let e = ap tableReadOf (sym (c .before .before .before .header .given .1)) ∙ c .before .before .before .before .before .read-table .ensures in
     let t = headed-sound (readTable _) e in
     let q = ap (λ h. sound (h .facts) (c .before .before .before .before .before .before .before .args .reading)) (t .2) in
     ap accepted (sym (t .2)) ∙ ap headed (for-sound _ _ (t .0) (t .1) (q ∙ sym (c .before .is-sound .ensures) ∙ c .if1 .taken))
 
 returns-3 : tie.Need-returns-3
 returns-3 c =
-    let e = ap answerOf (sym (c .before .before .before .header .given .1)) ∙ c .before .before .before .before .before .read-table .ensures in
+    let e = ap tableReadOf (sym (c .before .before .before .header .given .1)) ∙ c .before .before .before .before .before .read-table .ensures in
     let t = headed-sound (readTable _) e in
     let q = ap (λ h. sound (h .facts) (c .before .before .before .before .before .before .before .args .reading)) (t .2) in
     ap headed (for-bad _ _ (t .0) (t .1) (q ∙ sym (c .before .is-sound .ensures) ∙ c .if1 .left))

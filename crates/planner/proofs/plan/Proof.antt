@@ -33,7 +33,7 @@ refused-requires c κs = search needs
 returns : tie.Need-returns
 returns c =
     let a = c .before .before .before .before .before .before .before .before .before .before .before .before .before .args in
-    let f = headed-sound (readTable (a .table .now)) (ap Read.answerOf (sym (c .before .before .before .before .header .given .1)) ∙ c .before .before .before .before .before .before .read-table .ensures) in
+    let f = headed-sound (readTable (a .table .now)) (ap Read.tableReadOf (sym (c .before .before .before .before .header .given .1)) ∙ c .before .before .before .before .before .before .read-table .ensures) in
     let unsound = ap (λ (h : Header). sound (h .facts) (a .start)) (f .2) ∙ sym (c .before .before .is-sound .ensures) ∙ not-true _ (c .before .if1 .taken) in
     plan-kept (a .table .now) (λ i. c .before .before .before .before .before .before .before .before .before .before .before .before .shared-slice-known .given i .fits) (a .start) _ _ _ _ _
     (rw (← laid-unsound (a .table .now) (a .start) _ _ (f .0) (f .1) unsound) (lays-nothing 8 0 _ _ _ (ap answerOf (c .refused .ensures))))
@@ -44,20 +44,20 @@ refused-requires-2 c κs = search needs
 returns-2 : tie.Need-returns-2
 returns-2 c =
     let a = c .before .before .before .before .before .before .before .before .before .before .before .before .before .before .before .args in
-    let f = headed-sound (readTable (a .table .now)) (ap Read.answerOf (sym (c .before .before .before .before .before .before .header .given .1)) ∙ c .before .before .before .before .before .before .before .before .read-table .ensures) in
+    let f = headed-sound (readTable (a .table .now)) (ap Read.tableReadOf (sym (c .before .before .before .before .before .before .header .given .1)) ∙ c .before .before .before .before .before .before .before .before .read-table .ensures) in
     let isSound = ap (λ (h : Header). sound (h .facts) (a .start)) (f .2) ∙ sym (c .before .before .before .before .is-sound .ensures) ∙ not-false _ (c .before .before .before .if1 .left) in
     plan-kept (a .table .now) (λ i. c .before .before .before .before .before .before .before .before .before .before .before .before .before .before .shared-slice-known .given i .fits) (a .start) _ _ _ _ _
     (rw (← laid-unread (a .table .now) (a .start) _ _ (f .0) (f .1) isSound (c .before .if2 .taken)) (lays-nothing 9 0 _ _ _ (ap answerOf (c .refused2 .ensures))))
 
 plan-from-requires : tie.Need-plan-from-requires
-plan-from-requires c κs = ap Read.answerOf (sym (c .before .before .before .before .before .before .before .before .before .before .header .given .1)) ∙ c .before .before .before .before .before .before .before .before .before .before .before .before .read-table .ensures
+plan-from-requires c κs = ap Read.tableReadOf (sym (c .before .before .before .before .before .before .before .before .before .before .header .given .1)) ∙ c .before .before .before .before .before .before .before .before .before .before .before .before .read-table .ensures
 
 returns-3 : tie.Need-returns-3
 returns-3 c =
     let a = c .before .before .before .before .before .before .before .before .before .before .args in
     let told = c .before .x .given .1 in
     plan-kept (a .table .now) (λ i. c .before .before .before .before .before .before .before .before .before .shared-slice-known .given i .fits) (a .start) _ _ _ _ _
-    (rw (← laid-refused (a .table .now) (a .start) _ _ _ _ (headed-refused (readTable (a .table .now)) (ap Read.answerOf (sym told) ∙ c .before .before .before .read-table .ensures))) (lays-nothing _ _ _ _ _ refl))
+    (rw (← laid-refused (a .table .now) (a .start) _ _ _ _ (headed-refused (readTable (a .table .now)) (ap Read.tableReadOf (sym told) ∙ c .before .before .before .read-table .ensures))) (lays-nothing _ _ _ _ _ refl))
 
 same-length : tie.Need-same-length
 same-length c = search needs
@@ -77,7 +77,7 @@ same-length-5 c = search needs
 returns-4 : tie.Need-returns-4
 returns-4 c =
     let a = c .before .before .before .before .before .before .before .before .before .before .before .before .before .before .before .before .before .before .before .before .before .before .before .before .before .before .before .before .before .before .args in
-    let f = headed-sound (readTable (a .table .now)) (ap Read.answerOf (sym (c .before .before .before .before .before .before .before .before .before .before .before .before .before .before .before .before .before .before .before .before .before .header .given .1)) ∙ c .before .before .before .before .before .before .before .before .before .before .before .before .before .before .before .before .before .before .before .before .before .before .before .read-table .ensures) in
+    let f = headed-sound (readTable (a .table .now)) (ap Read.tableReadOf (sym (c .before .before .before .before .before .before .before .before .before .before .before .before .before .before .before .before .before .before .before .before .before .header .given .1)) ∙ c .before .before .before .before .before .before .before .before .before .before .before .before .before .before .before .before .before .before .before .before .before .before .before .read-table .ensures) in
     let isSound = ap (λ (h : Header). sound (h .facts) (a .start)) (f .2) ∙ sym (c .before .before .before .before .before .before .before .before .before .before .before .before .before .before .before .before .before .before .before .is-sound .ensures) ∙ not-false _ (c .before .before .before .before .before .before .before .before .before .before .before .before .before .before .before .before .before .before .if1 .left) in
     plan-kept (a .table .now) (λ i. c .before .before .before .before .before .before .before .before .before .before .before .before .before .before .before .before .before .before .before .before .before .before .before .before .before .before .before .before .before .shared-slice-known .given i .fits) (a .start) _ _ _ _ _
     (rw (← laid-state (a .table .now) (a .start) _ _ (f .0) (f .1) isSound (c .before .before .before .before .before .before .before .before .before .before .before .before .before .before .before .before .if2 .left)) (c .before .before .before .before .before .before .before .before .before .before .plan-from .ensures (f .0) (f .1)))

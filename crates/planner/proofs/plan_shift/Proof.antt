@@ -21,13 +21,13 @@ enum-known-header : tie.Need-enum-known-header
 enum-known-header c = search needs
 
 plan-shift-from-requires : tie.Need-plan-shift-from-requires
-plan-shift-from-requires c κs = ap Read.answerOf (sym (c .before .before .before .before .before .before .header .given .1)) ∙ c .before .before .before .before .before .before .before .before .read-table .ensures
+plan-shift-from-requires c κs = ap Read.tableReadOf (sym (c .before .before .before .before .before .before .header .given .1)) ∙ c .before .before .before .before .before .before .before .before .read-table .ensures
 
 returns : tie.Need-returns
 returns c =
     let a = c .before .before .before .before .before .before .before .before .before .before .args in
     shift-kept (a .table .now) (λ i. c .before .before .before .before .before .before .before .before .before .shared-slice-known .given i .fits) _ _ _ _ _
-    (rw (← shift-refused (a .table .now) _ _ _ _ (headed-refused (readTable (a .table .now)) (ap Read.answerOf (sym (c .before .x .given .1)) ∙ c .before .before .before .read-table .ensures)))
+    (rw (← shift-refused (a .table .now) _ _ _ _ (headed-refused (readTable (a .table .now)) (ap Read.tableReadOf (sym (c .before .x .given .1)) ∙ c .before .before .before .read-table .ensures)))
     (lays-nothing _ _ _ _ _ refl))
 
 same-length : tie.Need-same-length
@@ -48,7 +48,7 @@ same-length-5 c = search needs
 returns-2 : tie.Need-returns-2
 returns-2 c =
     let a = c .before .before .before .before .before .before .before .before .before .before .before .before .before .before .before .before .before .before .before .before .before .before .before .before .before .before .args in
-    let f = headed-sound (readTable (a .table .now)) (ap Read.answerOf (sym (c .before .before .before .before .before .before .before .before .before .before .before .before .before .before .before .before .before .header .given .1)) ∙ c .before .before .before .before .before .before .before .before .before .before .before .before .before .before .before .before .before .before .before .read-table .ensures) in
+    let f = headed-sound (readTable (a .table .now)) (ap Read.tableReadOf (sym (c .before .before .before .before .before .before .before .before .before .before .before .before .before .before .before .before .before .header .given .1)) ∙ c .before .before .before .before .before .before .before .before .before .before .before .before .before .before .before .before .before .before .before .read-table .ensures) in
     shift-kept (a .table .now) (λ i. c .before .before .before .before .before .before .before .before .before .before .before .before .before .before .before .before .before .before .before .before .before .before .before .before .before .shared-slice-known .given i .fits) _ _ _ _ _
     (rw (← shift-read (a .table .now) _ _ (f .0) (f .1)) (c .before .before .before .before .before .before .before .before .before .before .plan-shift-from .ensures (f .0) (f .1)))
 

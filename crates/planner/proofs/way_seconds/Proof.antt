@@ -6,7 +6,7 @@ use borrow.Author.Needs.{needs}
 use native.Mathlib.Omega.{arith}
 use mathlib.Core.Path.{_≡_, ap}
 use Prim.Native.Nat.{_+_, _≤_}
-use Rattle.table.specs.declared.Job.{Job}
+use Rattle.job.specs.declared.Job.{Job}
 use Rattle.table.specs.Read.{jobsOf, readTable}
 use Rattle.planning.specs.Listing.{path}
 use Rattle.planner.specs.Plan.{secondsOf}
