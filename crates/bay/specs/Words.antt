@@ -6,7 +6,7 @@ use mathlib.Core.List.{List, [], _∷_}
 use Prim.Native.Nat.{ℕ, _-_}
 use lib.ListN.{getD, replicate}
 use Rattle.refusal.specs.Checked.{Checked, accepted, refused}
-use Rattle.table.specs.declared.Job.{Job}
+use Rattle.job.specs.declared.Job.{Job}
 use Rattle.table.specs.declared.Header.{Header}
 use Rattle.table_writer.specs.Write.{Writing, written, short, uneven, unsound}
 use Rattle.reading.specs.declared.Reading.{Reading}

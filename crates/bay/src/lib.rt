@@ -20,8 +20,8 @@ ghost use Rattle.refusal.specs.Numbers.{numberOf};
 ghost use Rattle.refusal.specs.Checked.{andThen};
 ghost use Rattle.table.specs.Table.{tableBytes};
 ghost use Rattle.table.specs.Read.{readTable, headed, namedJob, jobReadOf};
-ghost use Rattle.table.specs.Read.{answerOf as tableAnswerOf};
-ghost use Rattle.table_writer.specs.Write.{even, tableOf, writing, writingOf, lentAfter};
+ghost use Rattle.table.specs.Read.{tableReadOf as tableAnswerOf};
+ghost use Rattle.table_writer.specs.Write.{even, tableOf, writing, tableWrittenOf, lentAfter};
 ghost use Rattle.expander.specs.Expands.{columns, room};
 ghost use Rattle.planner.specs.Plan.{laid, shift, shiftAnswerOf};
 ghost use Rattle.planner.specs.Plan.{answerOf as planAnswerOf};
@@ -78,7 +78,7 @@ fn job_words(read: JobRead) -> [u64; 5]
 
 #[no_mangle]
 pub extern "C" fn bay_read_job(table: &[u8], job: usize, answer: &mut [u64; 5]) -> u64
-    ensures { λ r. ⌜ Answered (words 5 jobWords (andThen (readTable (now (table .entry))) (λ t. namedJob t job))) (now (answer .exit)) r ⌝ }
+    ensures { λ r. ⌜ Answered (words 5 jobWords (andThen (readTable (now (table .entry))) (λ t. namedJob t job 0))) (now (answer .exit)) r ⌝ }
 {
     let named = job_words(table::read_job(table, job));
     *answer = named;
@@ -86,7 +86,7 @@ pub extern "C" fn bay_read_job(table: &[u8], job: usize, answer: &mut [u64; 5]) 
 }
 
 fn written_words(w: TableWritten) -> [u64; 2]
-    ensures { λ r. ⌜ r ≡ writingWords (writingOf w) ⌝ }
+    ensures { λ r. ⌜ r ≡ writingWords (tableWrittenOf w) ⌝ }
 {
     match w {
         TableWritten::Written(n) => [0, n as u64],
@@ -117,7 +117,7 @@ pub extern "C" fn bay_write_table(
         (tableBytes (tableOf (now (needs .entry)) (now (adds .entry)) (now (deletes .entry)) (now (seconds .entry)) facts goal)) (now (out .entry)) ⌝ }
 {
     let written = written_words(table_writer::write_table(
-        facts,
+        facts as usize,
         needs,
         adds,
         deletes,
