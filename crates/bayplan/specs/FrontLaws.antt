@@ -39,7 +39,7 @@ all-narrow (c ∷ cs) = leb (c .width) 26 && all-narrow cs
 narrow-in : (cs : List Command) → T (all-narrow cs) → (b w : ℕ) → widthIn cs b ≡ Bytes w → w ≤ 26
 unfolding all-narrow
 narrow-in [] t b w e = let z : _≡_ {A = ℕ} 0 1 = cc in absurd (omega arith)
-narrow-in (c ∷ cs) t b w e = by (eqb (c .value) b) (narrow-in cs (and-right (leb (c .width) 26) (all-narrow cs) t) b w) e
+narrow-in (c ∷ cs) t b w e = by (eqb (c .byte) b) (narrow-in cs (and-right (leb (c .width) 26) (all-narrow cs) t) b w) e
   where
     by : (x : Bool) → (widthIn cs b ≡ Bytes w → w ≤ 26) → (if x then Bytes (c .width) else widthIn cs b) ≡ Bytes w → w ≤ 26
     by true rest q = let k : c .width ≡ w = cc in omega (arith, leb-true (c .width) 26 (is-true (leb (c .width) 26) (and-left (leb (c .width) 26) (all-narrow cs) t)))
