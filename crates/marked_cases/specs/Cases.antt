@@ -11,8 +11,10 @@ use Rattle.commands.specs.Commands.{widthOf, commandAt}
 use Rattle.numbers.specs.Numbers.{fromBytes, toBytes, numberAt}
 use Rattle.reading.specs.declared.Reading.{Reading}
 use Rattle.reading.specs.Reading.{sound}
+use Rattle.job.specs.Job.{jobAt}
+use Rattle.job.specs.Validation.{validatedJob}
 use Rattle.table.specs.Read as Table
-use Rattle.table_writer.specs.Trailer.{trailerBytes}
+use Rattle.marked_cases.specs.Trailer.{trailerBytes}
 use Rattle.tree.specs.declared.Status.{Status}
 use Rattle.tree.specs.declared.Status.the-variants.{Failure, Running, Unsettled}
 use Rattle.tree.specs.ReadTree as Tree
@@ -104,5 +106,5 @@ cases =
     ∷ []
 
 pub marked : map (λ c. c .found) cases ≡ map (λ c. c .expected) cases
-unfolding laid laidFrom laidFor expand expandFrom expandEntry listed applied relevant regressed subset intersects union difference within sound nearest conditionBytes laterBytes laterEntries treeBytes widthOf commandAt fromBytes toBytes numberAt Table.readTable Table.readJobs Table.readGoal Table.readEnd Table.due Table.jobAt Table.judged tickBytes tickChecked tickBy judged Tree.wholeAt Tree.operandsOf Tree.nodeAt Tree.readRow Tree.readNode Tree.readTree Tree.readEnd
+unfolding laid laidFrom laidFor expand expandFrom expandEntry listed applied relevant regressed subset intersects union difference within sound nearest conditionBytes laterBytes laterEntries treeBytes widthOf commandAt fromBytes toBytes numberAt Table.readTable Table.readJobs Table.readGoal Table.readEnd Table.due jobAt validatedJob tickBytes tickChecked tickBy judged Tree.wholeAt Tree.operandsOf Tree.nodeAt Tree.readRow Tree.readNode Tree.readTree Tree.readEnd
 marked = refl

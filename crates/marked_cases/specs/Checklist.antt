@@ -13,8 +13,10 @@ use Rattle.commands.specs.Commands.{widthOf, commandAt}
 use Rattle.numbers.specs.Numbers.{fromBytes, toBytes, numberAt}
 use Rattle.reading.specs.declared.Reading.{Reading}
 use Rattle.reading.specs.Reading.{sound, state}
+use Rattle.job.specs.Job.{jobAt}
+use Rattle.job.specs.Validation.{validatedJob}
 use Rattle.table.specs.Read as Table
-use Rattle.table_writer.specs.Trailer.{trailer, trailerBytes}
+use Rattle.marked_cases.specs.Trailer.{trailer, trailerBytes}
 use Rattle.tree.specs.declared.Status.{Status}
 use Rattle.tree.specs.declared.Status.the-variants.{Success, Failure, Running, Unsettled}
 use Rattle.tree.specs.Tree as Shape
@@ -32,11 +34,11 @@ use Rattle.marked_cases.specs.Cases.{reading, p1Tree}
 -- ---- "From P1's start the run is 3, 1, 2, 4, then Success; from P5's it has no job."
 
 pub p1-run : Run (tableDomain trailer) (tickOn trailerBytes p1Tree) 0x02 (3 ∷ 1 ∷ 2 ∷ 4 ∷ [])
-unfolding laid laidFrom laidFor expand expandFrom expandEntry listed applied relevant regressed subset intersects union difference within sound nearest conditionBytes laterBytes laterEntries treeBytes widthOf commandAt fromBytes toBytes numberAt Table.readTable Table.readJobs Table.readGoal Table.readEnd Table.due Table.jobAt Table.judged tickBytes tickChecked tickBy judged Tree.wholeAt Tree.operandsOf Tree.nodeAt Tree.readRow Tree.readNode Tree.readTree Tree.readEnd
+unfolding laid laidFrom laidFor expand expandFrom expandEntry listed applied relevant regressed subset intersects union difference within sound nearest conditionBytes laterBytes laterEntries treeBytes widthOf commandAt fromBytes toBytes numberAt Table.readTable Table.readJobs Table.readGoal Table.readEnd Table.due jobAt validatedJob tickBytes tickChecked tickBy judged Tree.wholeAt Tree.operandsOf Tree.nodeAt Tree.readRow Tree.readNode Tree.readTree Tree.readEnd
 p1-run = (refl, tt, (refl, tt, (refl, tt, (refl, tt, refl))))
 
 pub p5-run : Run (tableDomain trailer) (tickOn trailerBytes (laid trailerBytes (reading 0x10 0) 4096 65535 .tree)) 0x10 []
-unfolding laid laidFrom laidFor expand expandFrom expandEntry listed applied relevant regressed subset intersects union difference within sound nearest conditionBytes laterBytes laterEntries treeBytes widthOf commandAt fromBytes toBytes numberAt Table.readTable Table.readJobs Table.readGoal Table.readEnd Table.due Table.jobAt Table.judged tickBytes tickChecked tickBy judged Tree.wholeAt Tree.operandsOf Tree.nodeAt Tree.readRow Tree.readNode Tree.readTree Tree.readEnd
+unfolding laid laidFrom laidFor expand expandFrom expandEntry listed applied relevant regressed subset intersects union difference within sound nearest conditionBytes laterBytes laterEntries treeBytes widthOf commandAt fromBytes toBytes numberAt Table.readTable Table.readJobs Table.readGoal Table.readEnd Table.due jobAt validatedJob tickBytes tickChecked tickBy judged Tree.wholeAt Tree.operandsOf Tree.nodeAt Tree.readRow Tree.readNode Tree.readTree Tree.readEnd
 p5-run = refl
 
 -- ---- the readings, and the ways of filling in their unread facts
@@ -121,5 +123,5 @@ unfolding readingsFrom
 all-readings = refl
 
 pub checklist : every (keeps (treeIn (Tree.readTree p1Tree 5 5)) (laid trailerBytes (reading 0x02 0) 4096 65535 .list)) (readings 5) ≡ true
-unfolding readingsFrom laid laidFrom laidFor expand expandFrom expandEntry listed applied relevant regressed subset intersects union difference within sound nearest conditionBytes laterBytes laterEntries treeBytes widthOf commandAt fromBytes toBytes numberAt Table.readTable Table.readJobs Table.readGoal Table.readEnd Table.due Table.jobAt Table.judged tickBytes tickChecked tickBy judged Tree.wholeAt Tree.operandsOf Tree.nodeAt Tree.readRow Tree.readNode Tree.readTree Tree.readEnd
+unfolding readingsFrom laid laidFrom laidFor expand expandFrom expandEntry listed applied relevant regressed subset intersects union difference within sound nearest conditionBytes laterBytes laterEntries treeBytes widthOf commandAt fromBytes toBytes numberAt Table.readTable Table.readJobs Table.readGoal Table.readEnd Table.due jobAt validatedJob tickBytes tickChecked tickBy judged Tree.wholeAt Tree.operandsOf Tree.nodeAt Tree.readRow Tree.readNode Tree.readTree Tree.readEnd
 checklist = refl

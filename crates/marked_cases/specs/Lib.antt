@@ -1,3 +1,4 @@
+pub mod Trailer
 pub mod Cases
 pub mod Checklist
 pub mod Shift

@@ -10,8 +10,10 @@ use Rattle.refusal.specs.Checked.{Checked, accepted, refused}
 use Rattle.commands.specs.Commands.{widthOf, commandAt}
 use Rattle.numbers.specs.Numbers.{fromBytes, toBytes, numberAt}
 use Rattle.reading.specs.Reading.{sound}
+use Rattle.job.specs.Job.{jobAt}
+use Rattle.job.specs.Validation.{validatedJob}
 use Rattle.table.specs.Read as Table
-use Rattle.table_writer.specs.Trailer.{trailerBytes}
+use Rattle.marked_cases.specs.Trailer.{trailerBytes}
 use Rattle.planning.specs.Expansion.{listed, expandEntry, expandFrom, expand}
 use Rattle.minutes.specs.Minutes.{nearest}
 use Rattle.flat.specs.TreeBytes.{conditionBytes, laterBytes, laterEntries, treeBytes}
@@ -40,14 +42,14 @@ asked =
     ∷ []
 
 pub shift-answers : map (λ a. shift (a .table) (a .capacity) (a .room) .answer) asked ≡ map (λ a. a .expected) asked
-unfolding shift shiftFor expand expandFrom expandEntry listed relevant regressed subset intersects union difference within conditionBytes laterBytes laterEntries treeBytes widthOf commandAt fromBytes toBytes numberAt Table.readTable Table.readJobs Table.readGoal Table.readEnd Table.due Table.jobAt Table.judged
+unfolding shift shiftFor expand expandFrom expandEntry listed relevant regressed subset intersects union difference within conditionBytes laterBytes laterEntries treeBytes widthOf commandAt fromBytes toBytes numberAt Table.readTable Table.readJobs Table.readGoal Table.readEnd Table.due jobAt validatedJob
 shift-answers = refl
 
 pub shift-list : shift trailerBytes 4096 65535 .list ≡ whole
-unfolding shift shiftFor expand expandFrom expandEntry listed relevant regressed subset intersects union difference within widthOf commandAt fromBytes toBytes numberAt Table.readTable Table.readJobs Table.readGoal Table.readEnd Table.due Table.jobAt Table.judged
+unfolding shift shiftFor expand expandFrom expandEntry listed relevant regressed subset intersects union difference within widthOf commandAt fromBytes toBytes numberAt Table.readTable Table.readJobs Table.readGoal Table.readEnd Table.due jobAt validatedJob
 shift-list = refl
 
 -- so its tree is P2's
 pub shift-tree : shift trailerBytes 4096 65535 .tree ≡ laid trailerBytes (reading 0x01 0) 4096 65535 .tree
-unfolding shift shiftFor laid laidFrom laidFor expand expandFrom expandEntry listed relevant regressed subset intersects union difference within sound nearest conditionBytes laterBytes laterEntries treeBytes widthOf commandAt fromBytes toBytes numberAt Table.readTable Table.readJobs Table.readGoal Table.readEnd Table.due Table.jobAt Table.judged
+unfolding shift shiftFor laid laidFrom laidFor expand expandFrom expandEntry listed relevant regressed subset intersects union difference within sound nearest conditionBytes laterBytes laterEntries treeBytes widthOf commandAt fromBytes toBytes numberAt Table.readTable Table.readJobs Table.readGoal Table.readEnd Table.due jobAt validatedJob
 shift-tree = refl

@@ -9,10 +9,13 @@ use Rattle.masks.specs.Sets.{intersects, within}
 use Rattle.refusal.specs.Checked.{accepted}
 use Rattle.commands.specs.Commands.{widthOf, commandAt}
 use Rattle.numbers.specs.Numbers.{fromBytes, toBytes, numberAt}
-use Rattle.table.specs.declared.Job.{Job}
-use Rattle.table.specs.Table.{Table, jobBytes, jobsBytes, goalBytes, tableBytes}
-use Rattle.table.specs.Read.{due, jobAt, judged, readEnd, readGoal, readJobs, readTable}
+use Rattle.job.specs.declared.Job.{Job}
+use Rattle.job.specs.Job.{jobBytes, jobSize, jobAt}
+use Rattle.job.specs.Validation.{validatedJob}
+use Rattle.table.specs.Table.{Table, jobsBytes, goalBytes, tableBytes}
+use Rattle.table.specs.Read.{due, readEnd, readGoal, readJobs, readTable}
+use Rattle.table.specs.Sound.{validatedFrom, validatedTable}
 use Rattle.table_writer.specs.Write.{written, writing}
 
 abbrev pub job : ℕ → ℕ → ℕ → ℕ → Job
 job needs adds deletes seconds = record { needs = needs; adds = adds; deletes = deletes; seconds = seconds }
@@ -69,9 +72,9 @@ unfolding tableBytes jobsBytes jobBytes goalBytes toBytes
 trailer-bytes = refl
 
 pub trailer-read : readTable trailerBytes ≡ accepted trailer
-unfolding readTable readJobs readGoal readEnd due judged jobAt commandAt widthOf numberAt fromBytes within intersects
+unfolding readTable readJobs readGoal readEnd due validatedJob jobAt commandAt widthOf numberAt fromBytes within intersects
 trailer-read = refl
 
 pub trailer-written : writing true trailer 147 ≡ written 147
-unfolding writing tableBytes jobsBytes jobBytes goalBytes toBytes readTable readJobs readGoal readEnd due judged jobAt commandAt widthOf numberAt fromBytes within intersects
+unfolding writing tableBytes jobsBytes jobBytes jobSize goalBytes toBytes validatedTable validatedFrom validatedJob within intersects
 trailer-written = refl

@@ -10,8 +10,10 @@ use Rattle.masks.specs.Effects.{relevant, regressed}
 use Rattle.commands.specs.Commands.{widthOf, commandAt}
 use Rattle.numbers.specs.Numbers.{fromBytes, toBytes, numberAt}
 use Rattle.reading.specs.Reading.{sound}
-use Rattle.table.specs.Read.{due, jobAt, judged, readEnd, readGoal, readJobs, readTable}
-use Rattle.table_writer.specs.Trailer.{trailerBytes}
+use Rattle.job.specs.Job.{jobAt}
+use Rattle.job.specs.Validation.{validatedJob}
+use Rattle.table.specs.Read.{due, readEnd, readGoal, readJobs, readTable}
+use Rattle.marked_cases.specs.Trailer.{trailerBytes}
 use Rattle.planning.specs.Expansion.{listed, expandEntry, expandFrom, expand}
 use Rattle.minutes.specs.Minutes.{nearest}
 use Rattle.flat.specs.TreeBytes.{conditionBytes, laterBytes, laterEntries, treeBytes}
@@ -57,5 +59,5 @@ pub printed : map (λ (f : List ℕ × List ℕ). programText (f .0) (f .1))
     ∷ lines ("refused 7 147" ∷ [])
     ∷ lines ("refused 1 146" ∷ [])
     ∷ []
-unfolding programText laidFiles laid laidFrom laidFor sound expand expandFrom expandEntry listed subset intersects union difference within relevant regressed nearest treeBytes laterEntries laterBytes conditionBytes readTable readJobs readGoal readEnd due judged jobAt commandAt widthOf numberAt fromBytes toBytes planText refusedText entriesText digits placesIn places
+unfolding programText laidFiles laid laidFrom laidFor sound expand expandFrom expandEntry listed subset intersects union difference within relevant regressed nearest treeBytes laterEntries laterBytes conditionBytes readTable readJobs readGoal readEnd due validatedJob jobAt commandAt widthOf numberAt fromBytes toBytes planText refusedText entriesText digits placesIn places
 printed = refl

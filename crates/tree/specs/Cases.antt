@@ -8,7 +8,9 @@ use Rattle.commands.specs.Commands.{FACTS, JOB, GOAL, END-OF-TABLE, FALLBACK, S
 use Rattle.numbers.specs.Numbers.{fromBytes, toBytes, numberAt}
 use Rattle.reading.specs.declared.Reading.{Reading}
 use Rattle.reading.specs.Reading.{sound}
-use Rattle.table.specs.Read.{due, jobAt, judged, readEnd, readGoal, readJobs, readTable}
+use Rattle.job.specs.Job.{jobAt}
+use Rattle.job.specs.Validation.{validatedJob}
+use Rattle.table.specs.Read.{due, readEnd, readGoal, readJobs, readTable}
 use Rattle.tree.specs.declared.Status.{Status}
 use Rattle.tree.specs.declared.Status.the-variants.{Failure, Running, Unsettled}
 use Rattle.tree.specs.ReadTree.{wholeAt, operandsOf, nodeAt, readRow, readNode, readTree, readEnd as readTreeEnd}
@@ -51,7 +53,7 @@ verdict a leaf = accepted (record { answer = a; leaf = leaf })
 -- P7 to P10
 pub marked : map (tickBytes trailer tree) (reading 0x02 0x01 ∷ reading 0x02 0x08 ∷ reading 0x03 0x00 ∷ reading 0x08 0x00 ∷ [])
     ≡ verdict (Unsettled 0x01) 71 ∷ verdict (Unsettled 0x08) 57 ∷ verdict (Running 3) 80 ∷ verdict Failure 99 ∷ []
-unfolding tickBytes tickChecked readTable readJobs readGoal readEnd due jobAt judged commandAt widthOf numberAt fromBytes toBytes sound subset intersects union within wholeAt operandsOf nodeAt readRow readNode readTree readTreeEnd tickBy judgedBy
+unfolding tickBytes tickChecked readTable readJobs readGoal readEnd due jobAt validatedJob commandAt widthOf numberAt fromBytes toBytes sound subset intersects union within wholeAt operandsOf nodeAt readRow readNode readTree readTreeEnd tickBy judgedBy
 marked = refl
 
 -- sixteen sequences of one child, each in the one before it, and then a node at depth 17
@@ -84,10 +86,10 @@ pub stops : map (λ s. tickBytes trailer s empty) (
     )
     ≡ refused 13 0 ∷ refused 13 2 ∷ refused 13 3 ∷ refused 15 0 ∷ refused 15 0 ∷ refused 13 0 ∷ refused 13 0 ∷ refused 15 5 ∷ refused 13 5 ∷ refused 15 3
     ∷ refused 13 48 ∷ refused 14 48 ∷ verdict (Running 4) 45 ∷ []
-unfolding tickBytes tickChecked readTable readJobs readGoal readEnd due jobAt judged commandAt widthOf numberAt fromBytes toBytes sound subset intersects union within wholeAt operandsOf nodeAt readRow readNode readTree readTreeEnd tickBy judgedBy
+unfolding tickBytes tickChecked readTable readJobs readGoal readEnd due jobAt validatedJob commandAt widthOf numberAt fromBytes toBytes sound subset intersects union within wholeAt operandsOf nodeAt readRow readNode readTree readTreeEnd tickBy judgedBy
 stops = refl
 
 -- the table first, then the reading, then the tree
 pub order : (tickBytes [] [] (reading 0x20 0) ≡ refused 1 0) × (tickBytes trailer [] (reading 0x20 0) ≡ refused 8 0) × (tickBytes trailer [] empty ≡ refused 13 0)
-unfolding tickBytes tickChecked readTable readJobs readGoal readEnd due jobAt judged commandAt widthOf numberAt fromBytes toBytes sound subset intersects union within wholeAt operandsOf nodeAt readRow readNode readTree readTreeEnd tickBy judgedBy
+unfolding tickBytes tickChecked readTable readJobs readGoal readEnd due jobAt validatedJob commandAt widthOf numberAt fromBytes toBytes sound subset intersects union within wholeAt operandsOf nodeAt readRow readNode readTree readTreeEnd tickBy judgedBy
 order = (refl, refl, refl)

@@ -2,7 +2,7 @@
 -- Assumes nothing.
 use Rattle.tree.specs.Promises.{answers}
 use Rattle.tree.specs.TickBytesLaws.{bytes-refused, bytes-checked}
-use Rattle.table.specs.Read.{answerOf}
+use Rattle.table.specs.Read.{tableReadOf}
 use mathlib.Core.Path.{sym, ap, _∙_}
 use borrow.Author.Needs.{needs}
 use Rattle.tree.proofs.tick.Statement.{statement}
@@ -22,11 +22,11 @@ tick-checked-requires c κs = search needs
 
 returns : tie.Need-returns
 returns c =
-    answers _ _ _ _ (bytes-refused _ _ _ _ _ (ap answerOf (sym (c .before .x .given .1)) ∙ c .before .before .before .read-table .ensures))
+    answers _ _ _ _ (bytes-refused _ _ _ _ _ (ap tableReadOf (sym (c .before .x .given .1)) ∙ c .before .before .before .read-table .ensures))
 
 returns-2 : tie.Need-returns-2
 returns-2 c =
-    answers _ _ _ _ (c .tick-checked .ensures ∙ bytes-checked _ _ _ _ (ap answerOf (sym (c .before .before .header .given .1)) ∙ c .before .before .before .before .read-table .ensures))
+    answers _ _ _ _ (c .tick-checked .ensures ∙ bytes-checked _ _ _ _ (ap tableReadOf (sym (c .before .before .header .given .1)) ∙ c .before .before .before .before .read-table .ensures))
 
 pub tick-spec : {M : Type 1} → statement M
 tick-spec =
