@@ -4,10 +4,10 @@ use Prim.Native.Nat.{ℕ, _+_, _≤_, _<_}
 use native.Mathlib.Omega.{arith}
 use mathlib.Core.Path.{_≡_, refl, sym, ap, _∙_, subst}
 use mathlib.Core.Bool.{Bool, true, false}
-use mathlib.Core.List.{List, [], _++_, map}
+use mathlib.Core.List.{List, [], _++_}
 use mathlib.Core.Logic.{_⊎_, inl, inr}
 use lib.Dec.{leb}
-use lib.ListN.{length, drop, length-append, length-drop, length-map}
+use lib.ListN.{length, drop}
 use borrow.Author.Tests.{le-leb, lt-leb, leb-false}
 use Rattle.base.specs.Bools.{if_then_else_}
 use Rattle.base.specs.Lists.{length-prefix}
@@ -23,8 +23,7 @@ use Rattle.expander.specs.declared.Expanded.the-variants as X
 use Rattle.expander.specs.declared.Until.{Until}
 use Rattle.expander.specs.declared.Until.the-variants as U
 use Rattle.expander.specs.Expands.{Columns, over, written, room, held, endedBy, planIn, expandedOf, listedBy, outcomeOf, Expands}
-use Rattle.expander.specs.ExpandsLaws.{stored, list-held, list-length, held-length, stored-fits, stored-small, exhausted-some, covered-some}
-use Rattle.expander.specs.ExpandsLaws.{capacity-conditions, capacity-actions, capacity-parents, capacity-depths}
+use Rattle.expander.specs.ExpandsLaws.{stored, list-held, list-length, held-length, stored-small, exhausted-some, covered-some, over-long}
 use Rattle.flat.specs.TreeBytes.{treeBytes}
 use Rattle.flat.specs.TreeBytesLaws.{lines}
 use Rattle.flat.specs.FlatLaws.{tree-columns}
@@ -102,13 +101,8 @@ module _ {A : Actions} {goal : Condition} {until : Until} {before after : Column
 
   -- ---- the columns are long enough for it
 
-  over-length : (field : Entry Condition → ℕ) (l : List (Entry Condition)) (xs : List ℕ) → length l ≤ length xs → length (over field l xs) ≡ length xs
-  over-length field l xs h = omega (arith, length-append (map field l) (drop (length l) xs), length-map l field, length-drop (length l) xs)
-
-  stands : (field : Entry Condition → ℕ) (xs ys : List ℕ) → xs ≡ over field (entries (planIn before A goal until)) ys → room before ≤ length ys
-      → stored x ≤ length xs
-  stands field xs ys e h =
-      omega (arith, ap length e, over-length field (entries (planIn before A goal until)) ys (omega (arith, list-length E, stored-fits E, h)), stored-fits E, h)
+  stands : (field : Entry Condition → ℕ) (xs ys : List ℕ) → xs ≡ over field (entries (planIn before A goal until)) ys → stored x ≤ length xs
+  stands field xs ys e = omega (arith, ap length e, over-long (entries (planIn before A goal until)) field ys, list-length E)
 
   pub record Stands (n : ℕ) (t : Columns) : Type 0 where
     pub few : n ≤ 4096
@@ -119,16 +113,12 @@ module _ {A : Actions} {goal : Condition} {until : Until} {before after : Column
 
   pub list-stands : Stands (stored x) after
   list-stands =
-      let c = length (before .conditions) in
-      let a = length (before .actions) in
-      let p = length (before .parents) in
-      let d = length (before .depths) in
       record {
         few = stored-small E;
-        in-conditions = stands (λ x. x .condition) _ _ (ap (λ (t : Columns). t .conditions) (E .tables)) (capacity-conditions c a p d);
-        in-actions = stands (λ x. x .action) _ _ (ap (λ (t : Columns). t .actions) (E .tables)) (capacity-actions c a p d);
-        in-parents = stands (λ x. x .parent) _ _ (ap (λ (t : Columns). t .parents) (E .tables)) (capacity-parents c a p d);
-        in-depths = stands (λ x. x .depth) _ _ (ap (λ (t : Columns). t .depths) (E .tables)) (capacity-depths c a p d);
+        in-conditions = stands (λ x. x .condition) _ _ (ap (λ (t : Columns). t .conditions) (E .tables));
+        in-actions = stands (λ x. x .action) _ _ (ap (λ (t : Columns). t .actions) (E .tables));
+        in-parents = stands (λ x. x .parent) _ _ (ap (λ (t : Columns). t .parents) (E .tables));
+        in-depths = stands (λ x. x .depth) _ _ (ap (λ (t : Columns). t .depths) (E .tables));
       }
 
 -- ---- the plan of a table

@@ -2,11 +2,13 @@
 -- Assumes nothing.
 use mathlib.Core.Path.{_≡_, refl, sym, ap, _∙_, subst}
 use mathlib.Core.Bool.{Bool}
-use mathlib.Core.List.{List}
+use mathlib.Core.List.{List, map}
 use Prim.Native.Nat.{ℕ, suc, _≤_, _<_}
 use native.Mathlib.Omega.{arith}
 use lib.Dec.{T}
-use lib.ListN.{length, getD}
+use lib.ListN.{length, getD, drop, length-append, length-map, List·getD-append, List·getD-map}
+use lib.Seq.{ext-getD}
+use Rattle.base.specs.Lists.{getD-inside}
 use Rattle.refusal.specs.Checked.{accepted, andThen}
 use Rattle.conditions.specs.Condition.{Condition, conditionWithin}
 use Rattle.planning.specs.Domain.{Domain}
@@ -25,7 +27,7 @@ use Rattle.expander.specs.declared.Expanded.{Expanded}
 use Rattle.expander.specs.declared.Expanded.the-variants as X
 use Rattle.expander.specs.declared.Until.{Until}
 use Rattle.expander.specs.declared.Until.the-variants as U
-use Rattle.expander.specs.Expands.{countOf, Columns, capacityOf, room, held, endedBy, planIn, expandedOf, listedBy, outcomeOf, Expands}
+use Rattle.expander.specs.Expands.{countOf, Columns, capacityOf, room, held, over, written, endedBy, planIn, expandedOf, listedBy, outcomeOf, Expands}
 
 -- ---- the number of actions, and the capacity
 
@@ -206,3 +208,32 @@ module _ {A : Actions} {goal : Condition} {until : Until} {before after : Column
 
   pub covered-some : Expands A goal until before after (X.Covered n) → 1 ≤ n
   covered-some E = omega (arith, covered-nonempty (fact-plannable A goal) (room before) (endedBy until) (held after n) (sym (E .outcome)), held-length after n)
+
+-- ---- a list that is written to the fronts of the tables
+
+module _ (l : List (Entry Condition)) where
+  pub over-long : (field : Entry Condition → ℕ) (xs : List ℕ) → length l ≤ length (over field l xs)
+  over-long field xs = omega (arith, length-append (map field l) (drop (length l) xs), length-map l field)
+
+  pub over-at : (field : Entry Condition → ℕ) (xs : List ℕ) (i : ℕ) (d : Entry Condition) → i < length l → getD (over field l xs) i 0 ≡ field (getD l i d)
+  over-at field xs i d h =
+      let inside : i < length (map field l) = omega (arith, length-map l field) in
+      List·getD-append (map field l) (drop (length l) xs) 0 i inside ∙ getD-inside (map field l) i 0 (field d) inside ∙ List·getD-map field l i d
+
+  -- is read back from them
+  pub written-held : (t : Columns) → held (written l t) (length l) ≡ l
+  written-held t =
+      ext-getD none (held (written l t) (length l)) l (held-length (written l t) (length l))
+      (λ i h. let k : i < length l = omega (arith, held-length (written l t) (length l)) in getD-prefix (entryOf (written l t)) (length l) i none k ∙ entry-back i k)
+    where
+      none : Entry Condition
+      none = record { condition = 0; action = 0; parent = 0; depth = 0 }
+
+      entry-back : (i : ℕ) → i < length l → entryOf (written l t) i ≡ getD l i none
+      entry-back i h =
+          rw (
+            over-at (λ x. x .condition) (t .conditions) i none h,
+            over-at (λ x. x .action) (t .actions) i none h,
+            over-at (λ x. x .parent) (t .parents) i none h,
+            over-at (λ x. x .depth) (t .depths) i none h,
+          )

@@ -4,11 +4,10 @@ use Prim.Native.Nat.{ℕ, suc, _-_, _≤_, _<_}
 use native.Mathlib.Omega.{arith}
 use mathlib.Core.Path.{_≡_, refl, sym, ap, _∙_}
 use mathlib.Core.Bool.{true, false}
-use mathlib.Core.List.{List, _++_, map}
+use mathlib.Core.List.{List}
 use lib.Dec.{eqb}
-use lib.ListN.{length, getD, drop, length-append, length-map, List·getD-append, List·getD-map}
+use lib.ListN.{length, getD}
 use borrow.Author.Tests.{eq-eqb, ne-eqb}
-use Rattle.base.specs.Lists.{getD-inside}
 use Rattle.refusal.specs.Checked.{Checked, accepted, refused}
 use Rattle.refusal.specs.CheckedLaws.{not-both, accepted-same, accepted-then, accepted-if}
 use Rattle.reading.specs.declared.Reading.{Reading}
@@ -27,8 +26,8 @@ use Rattle.planning.specs.DemandLaws.{planned-fits, planned-good, planned-actio
 use Rattle.minutes.specs.Minutes.{nearest}
 use Rattle.expander.specs.declared.Until.{Until}
 use Rattle.expander.specs.declared.Until.the-variants.{Covers}
-use Rattle.expander.specs.Expands.{Columns, over, written, endedBy, listedBy, room}
-use Rattle.expander.specs.ExpandsLaws.{capacity-most}
+use Rattle.expander.specs.Expands.{Columns, written, endedBy, listedBy, room}
+use Rattle.expander.specs.ExpandsLaws.{capacity-most, over-long, over-at}
 use Rattle.builder.specs.declared.Size.{Size}
 use Rattle.builder.specs.Plan.{tableActions, tableDomain, Plan, noPlan, planBy, tablePlan, afterChecks, sizeOf, WritesPlan}
 use Rattle.builder.specs.PlanLaws.{whole-told, listed-entries, plan-list, writes-other, writes-refused, writes-nothing}
@@ -78,15 +77,6 @@ module _ (table : List ℕ) (start : Reading) where
 
 -- ---- the list in the columns
 
-over-at : (field : Entry Condition → ℕ) (l : List (Entry Condition)) (xs : List ℕ) (i : ℕ) (d : Entry Condition) → i < length l
-    → getD (over field l xs) i 0 ≡ field (getD l i d)
-over-at field l xs i d h =
-    let inside : i < length (map field l) = omega (arith, length-map l field) in
-    List·getD-append (map field l) (drop (length l) xs) 0 i inside ∙ getD-inside (map field l) i 0 (field d) inside ∙ List·getD-map field l i d
-
-over-long : (field : Entry Condition → ℕ) (l : List (Entry Condition)) (xs : List ℕ) → length l ≤ length (over field l xs)
-over-long field l xs = omega (arith, length-append (map field l) (drop (length l) xs), length-map l field)
-
 -- Of a table, room for so many entries, what ends its list, and the tables that the list is written to:
 module _ (t : Table) (capacity : ℕ) (few : capacity ≤ 4096) (until : Until) (before : Columns) where
   abbrev D : Domain ℕ Condition ℕ
@@ -99,21 +89,21 @@ module _ (t : Table) (capacity : ℕ) (few : capacity ≤ 4096) (until : Until) 
   after = written list before
 
   action-is : (i : ℕ) → i < length list → getD (after .actions) i 0 ≡ entryIn D list i .action
-  action-is i h = over-at (λ x. x .action) list (before .actions) i (root D) h
+  action-is i h = over-at list (λ x. x .action) (before .actions) i (root D) h
 
   parent-is : (i : ℕ) → i < length list → getD (after .parents) i 0 ≡ entryIn D list i .parent
-  parent-is i h = over-at (λ x. x .parent) list (before .parents) i (root D) h
+  parent-is i h = over-at list (λ x. x .parent) (before .parents) i (root D) h
 
   depth-is : (i : ℕ) → i < length list → getD (after .depths) i 0 ≡ entryIn D list i .depth
-  depth-is i h = over-at (λ x. x .depth) list (before .depths) i (root D) h
+  depth-is i h = over-at list (λ x. x .depth) (before .depths) i (root D) h
 
   links : Linked (length (t .jobs)) (length list) (after .actions) (after .parents)
   links =
       let P = fact-plannable (tableActions t) (t .goal) in
       record {
         few = omega (arith, few, planned-fits P capacity (endedBy until));
-        actions-held = over-long (λ x. x .action) list (before .actions);
-        parents-held = over-long (λ x. x .parent) list (before .parents);
+        actions-held = over-long list (λ x. x .action) (before .actions);
+        parents-held = over-long list (λ x. x .parent) (before .parents);
         known = λ i h. rw (action-is (suc i) h) (planned-action P capacity (endedBy until) (suc i) (omega arith) h);
         earlier = λ i h. rw (parent-is (suc i) h) (planned-good P capacity (endedBy until) (omega arith) .derived (suc i) (omega arith) h .parent-before);
       }
@@ -129,7 +119,7 @@ module _ (t : Table) (capacity : ℕ) (few : capacity ≤ 4096) (until : Until) 
       let inside : length list - 1 < length list = omega arith in
       record {
         some = some;
-        depths-held = over-long (λ x. x .depth) list (before .depths);
+        depths-held = over-long list (λ x. x .depth) (before .depths);
         links = links;
         last-depth =
             depth-is (length list - 1) inside ∙ sym (planned-path (fact-plannable (tableActions t) (t .goal)) capacity (endedBy until) (length list - 1) inside)

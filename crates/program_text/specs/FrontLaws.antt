@@ -19,11 +19,13 @@ use Rattle.commands.specs.declared.Width.the-variants.{Bytes, NoCommand}
 use Rattle.commands.specs.declared.Found.the-variants.{Whole, Cut}
 use Rattle.commands.specs.Commands.{GOAL, commands, widthIn, widthOf, operandsAt, commandAt}
 use Rattle.numbers.specs.Numbers.{fromBytes, numberAt}
-use Rattle.table.specs.declared.Job.{Job}
+use Rattle.job.specs.declared.Job.{Job}
 use Rattle.table.specs.declared.Stage.{Stage}
 use Rattle.table.specs.declared.Stage.the-variants.{First, Middle, Last}
 use Rattle.table.specs.Table.{Table, maxJobs}
-use Rattle.table.specs.Read.{allowed, dueIn, due, jobAt, judged, readEnd, readGoal, readJobs, readTable, factsInRange}
+use Rattle.job.specs.Job.{jobAt}
+use Rattle.job.specs.Validation.{validatedJob}
+use Rattle.table.specs.Read.{allowed, dueIn, due, readEnd, readGoal, readJobs, readTable, factsInRange}
 use Rattle.table.specs.ReadLaws.{facts-inside, end-inside, goal-inside, job-inside}
 use Rattle.planner.specs.Plan.{laid}
 use Rattle.program_text.specs.Program.{startSize, laidFiles, programText}
@@ -123,16 +125,16 @@ module _ (p r : List ℕ) where
   jobs-same facts zero js at h =
       rw (due-same Middle at (omega arith) (omega arith))
       (then-same (due Middle p at) _ _
-      (λ c e. if-same (eqb (c .byte) GOAL) _ _ _ _
+      (λ c e. if-same (eqb (c .value) GOAL) _ _ _ _
       (λ q. goal-same facts js at (c .next) (omega arith) (omega (arith, goal-inside p at c e (eqb-true _ _ q) .0)))
       (λ _. refl)))
   jobs-same facts (suc left) js at h =
       rw (due-same Middle at (omega arith) (omega arith))
       (then-same (due Middle p at) _ _
-      (λ c e. if-same (eqb (c .byte) GOAL) _ _ _ _
+      (λ c e. if-same (eqb (c .value) GOAL) _ _ _ _
       (λ q. goal-same facts js at (c .next) (omega arith) (omega (arith, goal-inside p at c e (eqb-true _ _ q) .0)))
       (λ q. rw (job-same at (omega arith))
-      (then-same (judged facts at (jobAt p at)) _ _
+      (then-same (validatedJob facts at (jobAt p at)) _ _
       (λ j _. jobs-same facts left (js ++ (j ∷ [])) (c .next) (omega (arith, job-inside p at c e (eqb-false _ _ q) .0)))))))
 
   read-front : tableFront ≤ length p → readTable (p ++ r) ≡ readTable p

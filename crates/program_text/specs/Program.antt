@@ -8,11 +8,12 @@ use Rattle.base.specs.Bools.{if_then_else_}
 use Rattle.refusal.specs.Checked.{Checked, accepted, refused}
 use Rattle.numbers.specs.Numbers.{numberAt}
 use Rattle.reading.specs.declared.Reading.{Reading}
-use Rattle.table.specs.Table.{Table}
 use Rattle.table.specs.Read.{readTable}
+use Rattle.conditions.specs.Condition.{Condition}
 use Rattle.planning.specs.Expansion.{Entry}
+use Rattle.builder.specs.Plan.{Plan, noPlan, afterChecks}
 use Rattle.planner.specs.declared.Summary.{Summary}
-use Rattle.planner.specs.Plan.{Laid, unlaid, laid}
+use Rattle.planner.specs.Plan.{planFor}
 use Rattle.plan_text.specs.Text.{planText, refusedText}
 
 -- "It lends lists of 4,096 and a tree of 65,535 bytes."
@@ -29,21 +30,18 @@ startSize = 16
 abbrev pub startOf : List ℕ → Reading
 startOf start = record { held = numberAt 8 start 0; unread = numberAt 8 start 8 }
 
--- a start of another length: number 8, after the table's own stops, which are checked before it
-abbrev pub noStart : Checked Table → Laid Summary
-noStart (accepted t) = unlaid 8 0
-noStart (refused n p) = unlaid n p
-
-unfoldable pub laidFiles : List ℕ → List ℕ → Laid Summary
-laidFiles table start = if eqb (length start) startSize then laid table (startOf start) capacity treeRoom else noStart (readTable table)
+-- a start of another length is number 8, after the table's own stops, which are checked before it
+unfoldable pub filesPlan : List ℕ → List ℕ → Plan Summary
+filesPlan table start =
+    if eqb (length start) startSize then planFor table (startOf start) capacity treeRoom else afterChecks (readTable table) (λ t. noPlan 8 0)
 
 -- the plan's text, or "A stop prints one line only"
-abbrev pub answerText : Checked Summary → List (Entry ℕ) → List ℕ
+abbrev pub answerText : Checked Summary → List (Entry Condition) → List ℕ
 answerText (accepted s) l = planText (s .entries) (s .bytes) l (s .jobs) (s .minutes)
 answerText (refused number place) l = refusedText number place
 
-abbrev pub laidText : Laid Summary → List ℕ
-laidText L = answerText (L .answer) (L .list)
+abbrev pub textOf : Plan Summary → List ℕ
+textOf P = answerText (P .answer) (P .list)
 
 unfoldable pub programText : List ℕ → List ℕ → List ℕ
-programText table start = laidText (laidFiles table start)
+programText table start = textOf (filesPlan table start)

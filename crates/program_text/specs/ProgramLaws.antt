@@ -4,38 +4,39 @@ use borrow.Author.Tests.{eqb-true, eqb-false, leb-true}
 use native.Mathlib.Omega.{arith}
 use mathlib.Core.Path.{_≡_, refl, sym, ap, _∙_}
 use mathlib.Core.Bool.{Bool, true, false, _&&_}
-use mathlib.Core.List.{List, map}
-use Prim.Native.Nat.{ℕ, _≤_, _<_}
+use mathlib.Core.List.{List}
+use Prim.Native.Nat.{ℕ, _≤_}
 use lib.Dec.{eqb, leb}
-use lib.ListN.{length, getD, drop, length-map, length-append, length-drop, List·getD-append, List·getD-map}
-use lib.Seq.{ext-getD}
+use lib.ListN.{length}
 use Rattle.base.specs.Bools.{if_then_else_}
-use Rattle.base.specs.Lists.{prefix, length-prefix, getD-prefix}
-use Rattle.masks.specs.Sets.{subset, intersects, within}
-use Rattle.refusal.specs.Checked.{Checked, accepted, refused}
-use Rattle.refusal.specs.CheckedLaws.{not-both, accepted-same}
+use Rattle.masks.specs.Sets.{intersects, within}
+use Rattle.refusal.specs.Checked.{Checked, accepted, refused, andThen}
+use Rattle.refusal.specs.CheckedLaws.{not-both}
 use Rattle.reading.specs.declared.Reading.{Reading}
 use Rattle.reading.specs.Reading.{sound}
 use Rattle.table.specs.Table.{Table}
 use Rattle.table.specs.Read.{readTable}
-use Rattle.planning.specs.Expansion.{Entry, Outcome, exhausted, covered, full, entries}
-use Rattle.planning.specs.Columns.{entryAt, entriesOf}
+use Rattle.conditions.specs.Condition.{satisfied}
 use Rattle.planning.specs.Facts.{startPlan}
 use Rattle.planning.specs.FactLaws.{fact-plannable}
 use Rattle.planning.specs.DemandLaws.{planned-fits}
 use Rattle.plan_text.specs.Text.{planText, refusedText}
 use Rattle.plan_text.specs.Writes.{Wrote, shown}
 use Rattle.plan_text.specs.TextLaws.{wrote-whole}
-use Rattle.expander.specs.Expands.{Columns, capacityOf, room, held, over}
+use Rattle.expander.specs.declared.Until.the-variants.{Covers}
+use Rattle.expander.specs.Expands.{Columns, capacityOf, room, held, written}
+use Rattle.expander.specs.ExpandsLaws.{over-long, written-held}
 use Rattle.planner.specs.declared.Planned.{Planned}
 use Rattle.planner.specs.declared.Planned.the-variants as P
 use Rattle.planner.specs.declared.Summary.{Summary}
 use Rattle.refusal.specs.declared.Refusal.{Refusal}
 use Rattle.refusal.specs.Numbers.{numberOf}
 use Rattle.planner.specs.Promise.{Plans}
-use Rattle.planner.specs.Plan.{answerOf, Laid, unlaid, built, stopped, summaryOf, laidBy, laidFor, laidFrom, laidIn, laid, tableActions}
+use Rattle.builder.specs.Plan.{Plan, noPlan, planBy, tablePlan, afterChecks, tableActions}
+use Rattle.builder.specs.PlanLaws.{plan-list, whole-told}
+use Rattle.planner.specs.Plan.{summaryOf, startFor, planFor, plannedOf}
 use Rattle.program_text.specs.Shows.{Shows, PlannedFrom, shownIn, entriesIn, plannedText}
-use Rattle.program_text.specs.Program.{answerText, laidText, programText, capacity, treeRoom, startSize, startOf, noStart, laidFiles}
+use Rattle.program_text.specs.Program.{answerText, textOf, programText, capacity, treeRoom, startSize, startOf, filesPlan}
 
 -- ---- a start that no table takes
 
@@ -48,88 +49,41 @@ shared-unsound r e facts = rw e (by (within facts (r .held)) (within facts (r .u
     by true false = refl
     by false b = refl
 
-laid-unsound : (table : List ℕ) (r : Reading) → ((facts : ℕ) → sound facts r ≡ false) → (capacity room : ℕ) → laid table r capacity room ≡ noStart (readTable table)
-unfolding laid laidFrom
-laid-unsound table r h capacity room = by (readTable table)
+plan-unsound : (table : List ℕ) (r : Reading) → ((facts : ℕ) → sound facts r ≡ false) → (capacity room : ℕ)
+    → planFor table r capacity room ≡ afterChecks (readTable table) (λ t. noPlan 8 0)
+unfolding planFor startFor
+plan-unsound table r h capacity room = by (readTable table)
   where
-    by : (t : Checked Table) → laidIn t r capacity room ≡ noStart t
+    by : (c : Checked Table)
+        → afterChecks (andThen c λ t. if sound (t .facts) r then (if eqb (r .unread) 0 then accepted t else refused 9 0) else refused 8 0)
+        (λ t. tablePlan (Covers (r .held)) t capacity room (summaryOf t))
+        ≡ afterChecks c (λ t. noPlan 8 0)
     by (accepted t) = rw (h (t .facts))
     by (refused n p) = refl
 
 -- ---- a plan that is built: how many entries it lists
 
-pub record ListOf (L : Laid Summary) (s : Summary) (capacity : ℕ) : Type 0 where
-  pub size : s .entries ≡ length (L .list)
-  pub fits : length (L .list) ≤ capacity
+pub record ListOf (P : Plan Summary) (s : Summary) (capacity : ℕ) : Type 0 where
+  pub size : s .entries ≡ length (P .list)
+  pub fits : length (P .list) ≤ capacity
 
-module _ (capacity room : ℕ) (s : Summary) where
-  -- the promise for one plan
-  abbrev Listed : Laid Summary → Type 0
-  Listed L = L .answer ≡ accepted s → ListOf L s capacity
-
-  listed-unless : (n p : ℕ) → Listed (unlaid n p)
-  listed-unless n p e = absurd (not-both e)
-
-  by-outcome : (t : Table) (o : Outcome ℕ) → length (entries o) ≤ capacity → Listed (laidBy t room o)
-  by-outcome t (exhausted l) h e = absurd (not-both e)
-  by-outcome t (full l) h e = absurd (not-both e)
-  by-outcome t (covered l) h e = by-room (leb _ room) e
-    where
-      by-room : (b : Bool) → Listed (if b then built (summaryOf t l) l else stopped 12 l)
-      by-room true e = record { size = ap (λ (x : Summary). x .entries) (sym (accepted-same e)); fits = h }
-      by-room false e = absurd (not-both e)
-
-  listed-if : (a b : Bool) (L : Laid Summary) → Listed L → Listed (if a then (if b then L else unlaid 9 0) else unlaid 8 0)
-  listed-if true true L k = k
-  listed-if true false L k = listed-unless 9 0
-  listed-if false b L k = listed-unless 8 0
-
-  by-table : (x : Checked Table) (start : Reading) → Listed (laidIn x start capacity room)
-  unfolding laidFrom laidFor
-  by-table (refused n p) start = listed-unless n p
-  by-table (accepted t) start =
-      listed-if (sound (t .facts) start) (eqb (start .unread) 0) _
-      (by-outcome t (startPlan (tableActions t) (t .goal) capacity (start .held))
-      (planned-fits (fact-plannable (tableActions t) (t .goal)) capacity (λ c. subset c (start .held))))
-
-  pub laid-list : (table : List ℕ) (start : Reading) → laid table start capacity room .answer ≡ accepted s → ListOf (laid table start capacity room) s capacity
-  unfolding laid
-  laid-list table start = by-table (readTable table) start
-
--- ---- the list, read back from the tables that it was written over
-
-module _ (l : List (Entry ℕ)) where
-  over-length : (f : Entry ℕ → ℕ) (xs : List ℕ) → length l ≤ length xs → length (over f l xs) ≡ length xs
-  over-length f xs h = omega (arith, length-append (map f l) (drop (length l) xs), length-map l f, length-drop (length l) xs)
-
-  over-at : (f : Entry ℕ → ℕ) (xs : List ℕ) (i : ℕ) (d : Entry ℕ) → i < length l → f d ≡ 0 → getD (over f l xs) i 0 ≡ f (getD l i d)
-  over-at f xs i d h z =
-      List·getD-append (map f l) (drop (length l) xs) 0 i (omega (arith, length-map l f))
-      ∙ ap (getD (map f l) i) (sym z)
-      ∙ List·getD-map f l i d
-
-  -- what `getD` gives past the list
-  abbrev none : Entry ℕ
-  none = record { condition = 0; action = 0; parent = 0; depth = 0 }
-
-  module _ (conditions actions parents depths : List ℕ) where
-    abbrev entry : ℕ → Entry ℕ
-    entry = entryAt (over (λ x. x .condition) l conditions) (over (λ x. x .action) l actions) (over (λ x. x .parent) l parents) (over (λ x. x .depth) l depths)
-
-    entry-back : (i : ℕ) → i < length l → entry i ≡ getD l i none
-    entry-back i h =
-        rw (
-          over-at (λ x. x .condition) conditions i none h refl,
-          over-at (λ x. x .action) actions i none h refl,
-          over-at (λ x. x .parent) parents i none h refl,
-          over-at (λ x. x .depth) depths i none h refl,
-        )
-
-    pub list-back : prefix entry (length l) ≡ l
-    list-back =
-        let size = length-prefix entry (length l) in
-        ext-getD none (prefix entry (length l)) l size
-        (λ i h. let k : i < length l = omega arith in getD-prefix entry (length l) i none k ∙ entry-back i k)
+pub plan-lists : (capacity room : ℕ) (s : Summary) (table : List ℕ) (start : Reading) → planFor table start capacity room .answer ≡ accepted s
+    → ListOf (planFor table start capacity room) s capacity
+unfolding planFor tablePlan
+plan-lists capacity room s table start = by (startFor table start)
+  where
+    by : (c : Checked Table)
+        → afterChecks c (λ t. planBy (Covers (start .held)) room (summaryOf t) (startPlan (tableActions t) (t .goal) capacity (start .held))) .answer ≡ accepted s
+        → ListOf (afterChecks c (λ t. planBy (Covers (start .held)) room (summaryOf t) (startPlan (tableActions t) (t .goal) capacity (start .held)))) s capacity
+    by (refused n p) e = absurd (not-both e)
+    by (accepted t) e =
+        let o = startPlan (tableActions t) (t .goal) capacity (start .held) in
+        let w = whole-told (Covers (start .held)) room (summaryOf t) o s e in
+        let listed = plan-list (Covers (start .held)) room (summaryOf t) o in
+        record {
+          size = ap (λ (x : Summary). x .entries) (w .told-is) ∙ sym (ap (λ (P : Plan Summary). length (P .list)) (w .plan-is));
+          fits = omega (arith, ap length listed, planned-fits (fact-plannable (tableActions t) (t .goal)) capacity (λ c. satisfied c (start .held)));
+        }
 
 -- ---- the text, whole
 
@@ -157,52 +111,49 @@ module _ (table start : List ℕ) (reading : Reading) {before : Columns} {lent :
   room-is = omega (arith, roomy)
 
   -- the plan that is made is the one that these bytes ask for
-  abbrev made : Laid Summary
-  made = laid table reading (room before) (length lent)
+  abbrev made : Plan Summary
+  made = planFor table reading (room before) (length lent)
 
-  made-is : made ≡ laidFiles table start
-  unfolding laidFiles
+  made-is : made ≡ filesPlan table start
+  unfolding filesPlan
   made-is = rw (room-is, k .tree-lent) (by (eqb (length start) startSize) refl)
     where
       by : (b : Bool) → eqb (length start) startSize ≡ b
-          → laid table reading capacity treeRoom ≡ (if b then laid table (startOf start) capacity treeRoom else noStart (readTable table))
-      by true e = ap (λ (r : Reading). laid table r capacity treeRoom) (given .of-start (eqb-true (length start) startSize e))
-      by false e = laid-unsound table reading (given .of-other (eqb-false (length start) startSize e)) capacity treeRoom
+          → planFor table reading capacity treeRoom ≡ (if b then planFor table (startOf start) capacity treeRoom else afterChecks (readTable table) (λ t. noPlan 8 0))
+      by true e = ap (λ (r : Reading). planFor table r capacity treeRoom) (given .of-start (eqb-true (length start) startSize e))
+      by false e = plan-unsound table reading (given .of-other (eqb-false (length start) startSize e)) capacity treeRoom
 
   text-is : (a : Checked Summary) → a ≡ made .answer → answerText a (made .list) ≡ programText table start
   unfolding programText
-  text-is a e = ap (λ (x : Checked Summary). answerText x (made .list)) e ∙ ap laidText made-is
+  text-is a e = ap (λ (x : Checked Summary). answerText x (made .list)) e ∙ ap textOf made-is
 
   module _ {after : Columns} {tree : List ℕ} (s : Summary) (p : Plans table reading before after lent tree (P.Built s)) where
     answered : accepted s ≡ made .answer
-    answered = p .lays .answer-and-tree .answer
+    answered = p .writes .answer-and-tree .answer
 
     sized : ListOf made s (room before)
-    sized = laid-list (room before) (length lent) s table reading (sym answered)
+    sized = plan-lists (room before) (length lent) s table reading (sym answered)
 
-    column-length : (f : Entry ℕ → ℕ) (xs ys : List ℕ) → ys ≡ over f (made .list) xs → capacity ≤ length xs → capacity ≤ length ys
-    column-length f xs ys q h = omega (arith, ap length q, over-length (made .list) f xs (omega (arith, sized .fits, room-is)))
+    -- the tables with the list at their fronts
+    abbrev lists : Columns
+    lists = written (made .list) before
 
-    all-shown : shownIn s after ≡ length (made .list)
+    all-shown : shownIn s lists ≡ length (made .list)
     all-shown =
         omega (
           arith,
           sized .size,
-          sized .fits,
-          room-is,
-          column-length _ _ _ (p .lays .conditions) (roomy .0),
-          column-length _ _ _ (p .lays .actions) (roomy .1),
-          column-length _ _ _ (p .lays .parents) (roomy .2),
-          column-length _ _ _ (p .lays .depths) (roomy .3),
+          over-long (made .list) (λ x. x .condition) (before .conditions),
+          over-long (made .list) (λ x. x .action) (before .actions),
+          over-long (made .list) (λ x. x .parent) (before .parents),
+          over-long (made .list) (λ x. x .depth) (before .depths),
         )
 
     list-shown : held after (shownIn s after) ≡ made .list
-    list-shown =
-        rw (all-shown, p .lays .conditions, p .lays .actions, p .lays .parents, p .lays .depths)
-        (list-back (made .list) (before .conditions) (before .actions) (before .parents) (before .depths))
+    list-shown = rw (p .writes .tables, all-shown) (written-held (made .list) before)
 
   pub planned-text : {after : Columns} {tree : List ℕ} (r : Planned) → Plans table reading before after lent tree r → plannedText r after ≡ programText table start
-  planned-text (P.Refused x) p = text-is (answerOf (P.Refused x)) (p .lays .answer-and-tree .answer)
+  planned-text (P.Refused x) p = text-is (plannedOf (P.Refused x)) (p .writes .answer-and-tree .answer)
   planned-text (P.Built s) p = rw (list-shown s p) (text-is (accepted s) (answered s p))
 
   pub planned-entries : {after : Columns} {tree : List ℕ} (r : Planned) → Plans table reading before after lent tree r → entriesIn r ≤ capacity
