@@ -24,9 +24,8 @@ use Rattle.expander.specs.declared.Until.{Until}
 use Rattle.expander.specs.declared.Until.the-variants as U
 use Rattle.expander.specs.Expands.{Columns, over, written, room, held, endedBy, planIn, expandedOf, listedBy, outcomeOf, Expands}
 use Rattle.expander.specs.ExpandsLaws.{stored, list-held, list-length, held-length, stored-small, exhausted-some, covered-some, over-long}
-use Rattle.flat.specs.TreeBytes.{treeBytes}
-use Rattle.flat.specs.TreeBytesLaws.{lines}
-use Rattle.flat.specs.FlatLaws.{tree-columns}
+use Rattle.flat.specs.TreeBytes.{treeBytes, treeEntries}
+use Rattle.flat.specs.FlatTreeLaws.{tree-columns}
 use Rattle.builder.specs.declared.Size.{Size}
 use Rattle.builder.specs.Plan.{tableActions, Plan, noPlan, listOnly, listAndTree, withTree, finishedBy, planBy, tablePlan, sizeOf, WritesTree, WritesPlan}
 
@@ -42,6 +41,9 @@ module _ {Told : Type 0} (l : List (Entry Condition)) (told : Told) (lent tree :
   pub tree-fits : length (treeBytes l) ≤ length lent → tree ≡ treeBytes l ++ drop (length (treeBytes l)) lent → answer ≡ accepted told
       → WritesTree (withTree (length lent) told l) lent tree answer
   tree-fits h written a = rw (le-leb (length (treeBytes l)) (length lent) h) (record { answer = a; tree-written = written })
+
+pub sized : {n b : ℕ} (l : List (Entry Condition)) → length l ≡ n → b ≡ length (treeBytes l) → _≡_ {A = Checked Size} (accepted (record { entries = n; bytes = b })) (accepted (sizeOf l))
+sized l e f = rw (← e, f)
 
 -- the same tree, of a list that has the same conditions and actions, with another answer
 module _ {Told Other : Type 0} (room : ℕ) (l m : List (Entry Condition)) (sizes : length l ≡ length m) (trees : treeBytes l ≡ treeBytes m)
@@ -167,10 +169,10 @@ module _ {Told : Type 0} (t : Table) (until : Until) (before after : Columns) (x
 
 -- the tree of the columns' conditions and actions is that of the list
 tree-held : (after : Columns) (n : ℕ) (lent tree : List ℕ) (told : Checked Size)
-    → WritesTree (withTree (length lent) (sizeOf (lines (after .conditions) (after .actions) n)) (lines (after .conditions) (after .actions) n)) lent tree told
+    → WritesTree (withTree (length lent) (sizeOf (treeEntries (after .conditions) (after .actions) n)) (treeEntries (after .conditions) (after .actions) n)) lent tree told
     → WritesTree (withTree (length lent) (sizeOf (held after n)) (held after n)) lent tree told
 tree-held after n lent tree told W =
-    let drawn = lines (after .conditions) (after .actions) n in
+    let drawn = treeEntries (after .conditions) (after .actions) n in
     let sizes : length drawn ≡ length (held after n) = length-prefix (entryAt (after .conditions) (after .actions) [] []) n ∙ sym (held-length after n) in
     let trees : treeBytes drawn ≡ treeBytes (held after n) = sym (tree-columns (after .conditions) (after .actions) (after .parents) (after .depths) n) in
     subst (WritesTree (withTree (length lent) (sizeOf (held after n)) (held after n)) lent tree) (as-told told)
@@ -183,7 +185,7 @@ tree-held after n lent tree told W =
 -- the list ended as was asked, and the tree of its columns is written where it fits
 pub writes-built : (t : Table) (until : Until) (before after : Columns) (x : Expanded) (E : Expands (tableActions t) (t .goal) until before after x)
     (lent : List ℕ) (told : Checked Size) (n : ℕ) → expandedOf until x ≡ accepted n → (tree : List ℕ)
-    → WritesTree (withTree (length lent) (sizeOf (lines (after .conditions) (after .actions) n)) (lines (after .conditions) (after .actions) n)) lent tree told
+    → WritesTree (withTree (length lent) (sizeOf (treeEntries (after .conditions) (after .actions) n)) (treeEntries (after .conditions) (after .actions) n)) lent tree told
     → WritesPlan (tablePlan until t (room before) (length lent) sizeOf) before after lent tree told
 writes-built t until before after x E lent told n e tree W =
     writes-tree t until before after x E sizeOf lent told n e tree (tree-held after n lent tree told W)

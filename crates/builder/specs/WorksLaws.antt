@@ -10,7 +10,6 @@ use mathlib.Core.Logic.{_↔_, _⊎_, inl, inr, ⊎-elim}
 use lib.Dec.{T, leb, leb→le}
 use lib.ListN.{length, getD}
 use Rattle.base.specs.Bools.{holds, is-true, and-right}
-use Rattle.base.specs.Lists.{getD-inside}
 use Rattle.masks.specs.Sets.{intersects, within}
 use Rattle.refusal.specs.Checked.{Checked, accepted, refused}
 use Rattle.refusal.specs.CheckedLaws.{not-both, accepted-same}
@@ -28,7 +27,7 @@ use Rattle.table.specs.Read.{readTable}
 use Rattle.table.specs.RoundTripLaws.{read-sound}
 use Rattle.planning.specs.Domain.{Domain}
 use Rattle.planning.specs.Listing.{Good}
-use Rattle.planning.specs.Expansion.{Entry, Outcome, exhausted, covered, full, entries, entryIn, listing}
+use Rattle.planning.specs.Expansion.{Entry, Outcome, exhausted, covered, full, entries, root, entryIn, listing}
 use Rattle.planning.specs.Demand.{CoveredBy, tickList, Fewest}
 use Rattle.planning.specs.DemandLaws.{planned-fits, planned-full, planned-good, planned-action}
 use Rattle.planning.specs.Facts.{Actions, unitDomain, factPlan, WithinFacts}
@@ -36,12 +35,12 @@ use Rattle.planning.specs.FactLaws.{fact-plannable, fact-fewest-by, fact-irredu
 use Rattle.tree.specs.declared.Status.the-variants.{Failure, Running, Unsettled}
 use Rattle.tree.specs.Tick.{tickTree}
 use Rattle.tree.specs.TickBytes.{tickBytes, answered}
-use Rattle.runs.specs.Runs.{planAnswer, runAnswer, tickOn}
+use Rattle.runs.specs.Runs.{answerOfStatus, runAnswer, tickOn}
 use Rattle.flat.specs.TreeBytes.{treeBytes}
 use Rattle.flat.specs.FlatTree.{Fits, treeOf}
-use Rattle.flat.specs.FlatLaws.{each-by-place, later-by-place}
+use Rattle.flat.specs.FlatTreeLaws.{each-by-place, later-by-place}
 use Rattle.flat.specs.ReadBackLaws.{tick-read}
-use Rattle.flat.specs.FlatPromiseLaws.{noEntry, tick-agrees, unsettled-differ, action-named, failure-iff}
+use Rattle.flat.specs.FlatTickLaws.{tick-agrees, unsettled-differ, action-named, failure-iff}
 use Rattle.expander.specs.declared.Until.{Until}
 use Rattle.expander.specs.declared.Until.the-variants as U
 use Rattle.expander.specs.Expands.{endedBy, listedBy}
@@ -55,26 +54,23 @@ module _ (A : Actions) (goal : Condition) where
   abbrev F : Domain ℕ Condition ℕ
   F = unitDomain A goal
 
-  list-agrees : (l : List (Entry Condition)) (s : ℕ) → 1 ≤ length l → planAnswer (tickTree (state s) (treeOf l) .answer) ≡ tickList F l s
+  list-agrees : (l : List (Entry Condition)) (s : ℕ) → 1 ≤ length l → answerOfStatus (tickTree (state s) (treeOf l) .answer) ≡ tickList F l s
   list-agrees [] s h = absurd (omega arith)
-  list-agrees (x ∷ l) s h = tick-agrees A goal s x l
+  list-agrees (x ∷ l) s h = tick-agrees F (λ s c. refl) s x l
 
   -- the job that is named is that of a later entry, whose condition is read and held
   list-named : (l : List (Entry Condition)) (r : Reading) (job : ℕ) → 1 ≤ length l → tickTree r (treeOf l) .answer ≡ Running job
       → (i : ℕ) × (suc i < length l) × (entryIn F l (suc i) .action ≡ job) × Confirmed r (entryIn F l (suc i) .condition)
   list-named [] r job h e = absurd (omega arith)
   list-named (x ∷ l) r job h e =
-      let n = action-named r x l job e in
-      let same = getD-inside l (n .at) noEntry (record { condition = goal; action = 255; parent = 0; depth = 0 }) (n .inside) in
-      (n .at, omega (arith, n .inside), rw same at (n .is-action), rw same at (n .met))
+      let n = action-named (root F) r x l job e in
+      (n .at, omega (arith, n .inside), n .is-action, n .confirmed)
 
   list-fails : (l : List (Entry Condition)) (s : ℕ) → 1 ≤ length l → (tickTree (state s) (treeOf l) .answer ≡ Failure) ↔ (CoveredBy F l s → ⊥)
   list-fails [] s h = absurd (omega arith)
   list-fails (x ∷ l) s h =
-      let f = failure-iff s x l in (
-        (λ e c. f .0 e (c .at) (c .inside) (rw (getD-inside (x ∷ l) (c .at) noEntry (record { condition = goal; action = 255; parent = 0; depth = 0 }) (c .inside)) (c .met))),
-        (λ n. f .1 (λ i k m. n (record { at = i; inside = k; met = rw (getD-inside (x ∷ l) i noEntry (record { condition = goal; action = 255; parent = 0; depth = 0 }) k) at m }))),
-      )
+      let f = failure-iff (root F) s x l in
+      ((λ e c. f .0 e (c .at) (c .inside) (c .met)), (λ n. f .1 (λ i k m. n (record { at = i; inside = k; met = m }))))
 
 list-differ : (l : List (Entry Condition)) (r : Reading) (m : ℕ) → T (not (intersects (r .held) (r .unread))) → 1 ≤ length l → tickTree r (treeOf l) .answer ≡ Unsettled m
     → (s u : ℕ) × Completes r s × Completes r u × (tickTree (state s) (treeOf l) ≡ tickTree (state u) (treeOf l) → ⊥)

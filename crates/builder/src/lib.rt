@@ -10,8 +10,9 @@ ghost use lib.ListN.{length};
 ghost use Rattle.refusal.specs.Checked.{accepted};
 ghost use Rattle.table.specs.Table.{Table};
 ghost use Rattle.table.specs.Read.{readTable, headed};
+ghost use Rattle.tree.specs.ReadTree.{maxChildren};
 ghost use Rattle.expander.specs.Expands.{columns, room, expandedOf, Expands};
-ghost use Rattle.flat.specs.TreeBytesLaws.{lines};
+ghost use Rattle.flat.specs.TreeBytes.{treeEntries};
 ghost use Rattle.builder.specs.Plan.{tableActions, withTree, tablePlan, sizeOf, listedOf, builtOf, WritesTree, WritesPlan};
 
 // The entries of a list, and the bytes of its tree.
@@ -25,8 +26,6 @@ pub enum Built {
     Whole(Size),
     Refused(Refusal),
 }
-
-const MAX_JOBS: usize = 128;
 
 // Lists the conditions from which the jobs of a sound table lead to its goal, up to the first that ends the list.
 fn expand_goal(
@@ -45,10 +44,10 @@ fn expand_goal(
 {
     let count = header.jobs;
     let goal = header.goal;
-    let mut needs = [0u64; MAX_JOBS];
-    let mut adds = [0u64; MAX_JOBS];
-    let mut deletes = [0u64; MAX_JOBS];
-    let mut seconds = [0u16; MAX_JOBS];
+    let mut needs = [0u64; table::MAX_JOBS];
+    let mut adds = [0u64; table::MAX_JOBS];
+    let mut deletes = [0u64; table::MAX_JOBS];
+    let mut seconds = [0u16; table::MAX_JOBS];
     job_rows::load_jobs(table, count, &mut needs, &mut adds, &mut deletes, &mut seconds);
     expander::expand(
         &needs[..count],
@@ -91,12 +90,12 @@ fn as_listed(until: Until, expanded: Expanded) -> Listed
 
 // Writes the tree of the list's first n entries, where it has room.
 fn fit_tree(n: usize, conditions: &[u64], actions: &[u8], tree: &mut [u8]) -> Built
-    requires { ⌜ (1 ≤ n) × (n ≤ 4096) × (n ≤ length (now conditions)) × (n ≤ length (now actions)) ⌝ }
+    requires { ⌜ (1 ≤ n) × (n ≤ maxChildren) × (n ≤ length (now conditions)) × (n ≤ length (now actions)) ⌝ }
     ensures { λ r. ⌜ WritesTree
-        (withTree (length (now (tree .entry))) (sizeOf (lines (now (conditions .entry)) (now (actions .entry)) n)) (lines (now (conditions .entry)) (now (actions .entry)) n))
+        (withTree (length (now (tree .entry))) (sizeOf (treeEntries (now (conditions .entry)) (now (actions .entry)) n)) (treeEntries (now (conditions .entry)) (now (actions .entry)) n))
         (now (tree .entry)) (now (tree .exit)) (builtOf r) ⌝ }
 {
-    let bytes = flat::ENTRY * n - 1;
+    let bytes = flat::tree_size(n);
     if tree.len() < bytes {
         return Built::Refused(Refusal {
             reason: Reason::TreeTooShort,

@@ -1,7 +1,9 @@
+-- definitions
 pub mod TreeBytes
-pub mod TreeBytesLaws
 pub mod FlatTree
-pub mod FlatLaws
-pub mod ReadBack
-pub mod TickFlat
-pub mod FlatPromises
+pub mod FlatTick
+-- laws
+pub mod TreeBytesLaws
+pub mod FlatTreeLaws
+pub mod ReadBackLaws
+pub mod FlatTickLaws

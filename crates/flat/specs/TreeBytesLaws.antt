@@ -1,143 +1,185 @@
--- Laws of the bytes of a list's tree, and what a run of stores leaves of them.
+-- Laws of the bytes of a list's tree: their sizes, and what a run of stores leaves of them.
 -- Assumes nothing.
 use Prim.Native.Nat.{ℕ, zero, suc, _+_, _-_, _*_, _≤_, _<_}
+use native.Mathlib.Nat.{zero-add}
 use native.Mathlib.Numerals.{add-one}
+use native.Mathlib.Decide.{decLe}
 use native.Mathlib.Omega.{arith}
-use mathlib.Core.Path.{_≡_, refl, sym, ap, _∙_}
+use mathlib.Core.Path.{_≡_, refl, sym, ap, _∙_, subst}
 use mathlib.Core.List.{List, [], _∷_, _++_, append-assoc, append-nil}
 use lib.ListN.{length, set, drop, getD, length-append}
 use lib.Seq.{sets, sets-eq}
 use Rattle.base.specs.Lists.{length-prefix}
-use Rattle.commands.specs.Commands.{FALLBACK, SEQUENCE, CONDITION, JOB-LEAF, END-OF-TREE}
+use Rattle.commands.specs.Commands.{CONDITION, JOB-LEAF, END-OF-TREE, FALLBACK-SIZE, SEQUENCE-SIZE, CONDITION-SIZE, JOB-LEAF-SIZE, END-OF-TREE-SIZE, OPERANDS-AT, MASK-WIDTH}
 use Rattle.numbers.specs.Numbers.{toBytes}
-use Rattle.numbers.specs.NumberLaws.{sets-after, to-length}
+use Rattle.numbers.specs.NumberLaws.{sets-after}
+use Rattle.conditions.specs.Condition.{Condition}
 use Rattle.planning.specs.Expansion.{Entry}
-use Rattle.planning.specs.Columns.{entryAt, entriesOf}
-use Rattle.flat.specs.TreeBytes.{conditionBytes, laterBytes, laterEntries, treeBytes}
+use Rattle.planning.specs.Columns.{entryAt}
+use Rattle.tree.specs.declared.Kind.{Kind}
+use Rattle.tree.specs.declared.Kind.the-variants.{Fallback, Sequence}
+use Rattle.tree.specs.ReadTree.{countWidth}
+use Rattle.flat.specs.TreeBytes.{branchBytes, conditionBytes, actionBytes, endBytes, firstBytes, entryBytes, laterEntries, treeBytes, treeEntries, Puts}
 
--- ---- lengths
+-- ---- sizes
 
-pub condition-length : (mask : ℕ) → length (conditionBytes mask) ≡ 9
+pub branch-size : (kind : Kind) (n : ℕ) → length (branchBytes kind n) ≡ FALLBACK-SIZE
+unfolding toBytes
+branch-size kind n = refl
+
+pub condition-size : (c : Condition) → length (conditionBytes c) ≡ CONDITION-SIZE
 unfolding conditionBytes toBytes
-condition-length mask = refl
+condition-size c = refl
 
-pub later-length : (mask action : ℕ) → length (laterBytes mask action) ≡ 14
-unfolding laterBytes conditionBytes toBytes
-later-length mask action = refl
+pub action-size : (action : ℕ) → length (actionBytes action) ≡ JOB-LEAF-SIZE
+unfolding actionBytes
+action-size action = refl
 
-pub entries-length : (l : List (Entry ℕ)) → length (laterEntries l) ≡ 14 * length l
+first-size : (n : ℕ) (c : Condition) → length (firstBytes n c) ≡ FALLBACK-SIZE + CONDITION-SIZE
+unfolding firstBytes conditionBytes toBytes
+first-size n c = refl
+
+entry-size : (c : Condition) (action : ℕ) → length (entryBytes c action) ≡ SEQUENCE-SIZE + CONDITION-SIZE + JOB-LEAF-SIZE
+unfolding entryBytes conditionBytes actionBytes toBytes
+entry-size c action = refl
+
+later-size : (l : List (Entry Condition)) → length (laterEntries l) ≡ (SEQUENCE-SIZE + CONDITION-SIZE + JOB-LEAF-SIZE) * length l
 unfolding laterEntries
-entries-length [] = refl
-entries-length (x ∷ l) =
-    length-append (laterBytes (x .condition) (x .action)) (laterEntries l) ∙ omega (arith, later-length (x .condition) (x .action), entries-length l)
+later-size [] = refl
+later-size (x ∷ l) = length-append (entryBytes (x .condition) (x .action)) (laterEntries l) ∙ omega (arith, entry-size (x .condition) (x .action), later-size l)
 
--- "That is 14 × n − 1 bytes."
-pub tree-length : (l : List (Entry ℕ)) → 0 < length l → length (treeBytes l) ≡ 14 * length l - 1
+-- what is put one part after another
+pub first-parts : (n : ℕ) (c : Condition) → length (firstBytes n c) ≡ length (branchBytes Fallback n) + length (conditionBytes c)
+unfolding firstBytes
+first-parts n c = length-append (branchBytes Fallback n) (conditionBytes c)
+
+pub entry-parts : (c : Condition) (action : ℕ) → length (entryBytes c action) ≡ length (branchBytes Sequence 2) + length (conditionBytes c) + length (actionBytes action)
+unfolding entryBytes
+entry-parts c action = omega (arith, length-append (branchBytes Sequence 2) (conditionBytes c ++ actionBytes action), length-append (conditionBytes c) (actionBytes action))
+
+pub parts-size : (x : Entry Condition) (l : List (Entry Condition))
+    → length (treeBytes (x ∷ l)) ≡ length (firstBytes (length (x ∷ l)) (x .condition)) + length (laterEntries l) + length endBytes
 unfolding treeBytes
-tree-length [] h = absurd (omega arith)
-tree-length (x ∷ l) h =
+parts-size x l =
     omega (
       arith,
-      length-append (toBytes 2 (length (x ∷ l))) (conditionBytes (x .condition) ++ (laterEntries l ++ (END-OF-TREE ∷ []))),
-      length-append (conditionBytes (x .condition)) (laterEntries l ++ (END-OF-TREE ∷ [])),
-      length-append (laterEntries l) (END-OF-TREE ∷ []),
-      to-length 2 (length (x ∷ l)),
-      condition-length (x .condition),
-      entries-length l,
+      length-append (firstBytes (length (x ∷ l)) (x .condition)) (laterEntries l ++ endBytes),
+      length-append (laterEntries l) endBytes,
     )
 
--- ---- stores, one run after another
+pub counted-size : (n : ℕ) (l : List (Entry Condition)) → 1 ≤ n → length l ≡ n
+    → FALLBACK-SIZE + CONDITION-SIZE + (SEQUENCE-SIZE + CONDITION-SIZE + JOB-LEAF-SIZE) * (n - 1) + END-OF-TREE-SIZE ≡ length (treeBytes l)
+counted-size n [] h e = absurd (omega arith)
+counted-size n (x ∷ l) h e = omega (arith, parts-size x l, first-size (length (x ∷ l)) (x .condition), later-size l)
 
-pub condition-written : (l : List ℕ) (at mask : ℕ) → sets (set l at CONDITION) (at + 1) (toBytes 8 mask) ≡ sets l at (conditionBytes mask)
-unfolding conditionBytes
-condition-written l at mask = sets-after l (CONDITION ∷ []) (toBytes 8 mask) at (at + 1) refl
+-- "That is 14 × n − 1 bytes."
+pub tree-length : (l : List (Entry Condition)) → 0 < length l → length (treeBytes l) ≡ 14 * length l - 1
+tree-length l h = omega (arith, counted-size (length l) l h refl)
 
-pub later-written : (l : List ℕ) (at mask action : ℕ)
-    → set (set (sets (sets (set l at SEQUENCE) (at + 1) (toBytes 2 2)) (at + 3) (conditionBytes mask)) (at + 12) JOB-LEAF) (at + 13) action ≡ sets l at (laterBytes mask action)
-unfolding laterBytes
-later-written l at mask action =
-    let two : at + 12 + 1 ≡ at + 13 = omega arith in
-    let c = condition-length mask in
-    rw (
-      ← two,
-      sets-after l (SEQUENCE ∷ []) (toBytes 2 2) at (at + 1) refl,
-      sets-after l (SEQUENCE ∷ toBytes 2 2) (conditionBytes mask) at (at + 3) (omega (arith, to-length 2 2)),
-      add-one (at + 12),
-    )
-    (sets-after l ((SEQUENCE ∷ toBytes 2 2) ++ conditionBytes mask) (JOB-LEAF ∷ action ∷ []) at (at + 12)
-    (omega (arith, c, to-length 2 2, length-append (SEQUENCE ∷ toBytes 2 2) (conditionBytes mask)))
-    ∙ simp append-assoc)
+-- ---- bytes that are put
 
-entries-snoc : (l : List (Entry ℕ)) (x : Entry ℕ) → laterEntries (l ++ (x ∷ [])) ≡ laterEntries l ++ laterBytes (x .condition) (x .action)
-unfolding laterEntries
-entries-snoc [] x = append-nil (laterBytes (x .condition) (x .action))
-entries-snoc (y ∷ l) x = rw (entries-snoc l x, append-assoc)
+-- one run of bytes after another
+pub puts-then : {xs ys before between after : List ℕ} {at next past : ℕ} → Puts xs at before between next → Puts ys next between after past
+    → Puts (xs ++ ys) at before after past
+puts-then {xs} {ys} {before} {between} {after} {at} {next} {past} p q =
+    record {
+      written = q .written ∙ ap (λ (l : List ℕ). sets l next ys) (p .written) ∙ sets-after before xs ys at next (sym (p .past));
+      past = omega (arith, p .past, q .past, length-append xs ys);
+    }
+
+-- at the front of a list that has room for them
+pub puts-front : {bytes before after : List ℕ} {next : ℕ} → Puts bytes 0 before after next → length bytes ≤ length before → after ≡ bytes ++ drop (length bytes) before
+puts-front {bytes} {before} {after} {next} p h =
+    p .written ∙ sets-eq bytes before 0 (omega arith) ∙ ap (λ (k : ℕ). bytes ++ drop k before) (zero-add (length bytes))
+
+module _ (l : List ℕ) (at : ℕ) where
+  pub branch-put : (byte n : ℕ) → Puts (byte ∷ toBytes countWidth n) at l (sets (set l at byte) (at + OPERANDS-AT) (toBytes countWidth n)) (at + FALLBACK-SIZE)
+  unfolding toBytes
+  branch-put byte n = record { written = sets-after l (byte ∷ []) (toBytes countWidth n) at (at + OPERANDS-AT) refl; past = refl }
+
+  pub condition-put : (c : Condition) → Puts (conditionBytes c) at l (sets (set l at CONDITION) (at + OPERANDS-AT) (toBytes MASK-WIDTH c)) (at + CONDITION-SIZE)
+  unfolding conditionBytes toBytes
+  condition-put c = record { written = sets-after l (CONDITION ∷ []) (toBytes MASK-WIDTH c) at (at + OPERANDS-AT) refl; past = refl }
+
+  pub action-put : (action : ℕ) → Puts (actionBytes action) at l (set (set l at JOB-LEAF) (at + OPERANDS-AT) action) (at + JOB-LEAF-SIZE)
+  unfolding actionBytes
+  action-put action = record { written = ap (λ (k : ℕ). set (set l at JOB-LEAF) k action) (add-one at); past = refl }
+
+  pub end-put : Puts endBytes at l (set l at END-OF-TREE) (at + END-OF-TREE-SIZE)
+  end-put = record { written = refl; past = refl }
 
 -- ---- the tree of the first entries of the columns, as it grows
 
-module _ (conditions actions : List ℕ) where
-  -- entry i, as far as a tree shows it
-  abbrev pub lineAt : ℕ → Entry ℕ
-  lineAt i = entryAt conditions actions [] [] i
+entries-snoc : (l : List (Entry Condition)) (x : Entry Condition) → laterEntries (l ++ (x ∷ [])) ≡ laterEntries l ++ entryBytes (x .condition) (x .action)
+unfolding laterEntries
+entries-snoc [] x = append-nil (entryBytes (x .condition) (x .action))
+entries-snoc (y ∷ l) x = rw (entries-snoc l x, append-assoc)
 
-  abbrev pub lines : ℕ → List (Entry ℕ)
-  lines n = entriesOf conditions actions [] [] n
+module _ (conditions actions : List ℕ) where
+  abbrev entry : ℕ → Entry Condition
+  entry i = entryAt conditions actions [] [] i
 
   -- the entries after the first, up to n
-  abbrev pub later : ℕ → List (Entry ℕ)
-  later n = drop 1 (lines n)
+  abbrev later : ℕ → List (Entry Condition)
+  later n = drop 1 (treeEntries conditions actions n)
 
-  lines-split : (n : ℕ) → lines (suc n) ≡ lineAt 0 ∷ later (suc n)
-  lines-split zero = refl
-  lines-split (suc n) = rw (lines-split n)
+  pub entries-split : (n : ℕ) → treeEntries conditions actions (suc n) ≡ entry 0 ∷ later (suc n)
+  entries-split zero = refl
+  entries-split (suc n) = rw (entries-split n)
 
-  later-suc : (n : ℕ) → later (suc (suc n)) ≡ later (suc n) ++ (lineAt (suc n) ∷ [])
-  later-suc n = rw (lines-split n)
+  later-suc : (n : ℕ) → later (suc (suc n)) ≡ later (suc n) ++ (entry (suc n) ∷ [])
+  later-suc n = rw (entries-split n)
 
-  later-size : (n : ℕ) → length (later (suc n)) ≡ n
-  later-size n = omega (arith, ap length (lines-split n), length-prefix lineAt (suc n))
+  later-grown : (i : ℕ) → 1 ≤ i → laterEntries (later (i + 1)) ≡ laterEntries (later i) ++ entryBytes (getD conditions i 0) (getD actions i 0)
+  later-grown zero h = absurd (omega arith)
+  later-grown (suc i) h = rw (add-one (suc i)) (ap laterEntries (later-suc i) ∙ entries-snoc (later (suc i)) (entry (suc i)))
 
-  -- one entry more after the first
-  pub entries-written : (l out : List ℕ) (i at : ℕ) → 1 ≤ i → at + 2 ≡ 14 * i → out ≡ sets l 12 (laterEntries (later i))
-      → sets out at (laterBytes (getD conditions i 0) (getD actions i 0)) ≡ sets l 12 (laterEntries (later (i + 1)))
-  entries-written l out zero at h e o = absurd (omega arith)
-  entries-written l out (suc i) at h e o =
-      rw (o, add-one (suc i))
-      (sets-after l (laterEntries (later (suc i))) (laterBytes (getD conditions (suc i) 0) (getD actions (suc i) 0)) 12 at
-      (omega (arith, entries-length (later (suc i)), later-size i))
-      ∙ ap (sets l 12) (sym (entries-snoc (later (suc i)) (lineAt (suc i))) ∙ ap laterEntries (sym (later-suc i))))
+  -- none is put yet
+  pub later-none : (l : List ℕ) (at : ℕ) → Puts (laterEntries (later 1)) at l l at
+  unfolding laterEntries
+  later-none l at = record { written = refl; past = omega arith }
 
-  -- the whole tree: FALLBACK with its count, entry 0, the others, END
-  abbrev head : ℕ → List ℕ
-  head n = FALLBACK ∷ toBytes 2 n ++ conditionBytes (getD conditions 0 0)
+  -- one entry more
+  pub later-put : {i at next past : ℕ} {before between after : List ℕ} → 1 ≤ i → Puts (laterEntries (later i)) at before between next
+      → Puts (entryBytes (getD conditions i 0) (getD actions i 0)) next between after past → Puts (laterEntries (later (i + 1))) at before after past
+  later-put {i} h p q = rw (later-grown i h) (puts-then p q)
 
-  tree-split : (n : ℕ) → treeBytes (lines (suc n)) ≡ (head (suc n) ++ laterEntries (later (suc n))) ++ (END-OF-TREE ∷ [])
-  unfolding treeBytes
-  tree-split n =
-      let first = conditionBytes (getD conditions 0 0) in
-      let rest = laterEntries (later (suc n)) in
-      rw (lines-split n, later-size n)
-      (ap (λ (r : List ℕ). FALLBACK ∷ r)
-      (sym (append-assoc (toBytes 2 (suc n)) first (rest ++ (END-OF-TREE ∷ []))) ∙ sym (append-assoc (toBytes 2 (suc n) ++ first) rest (END-OF-TREE ∷ []))))
+  -- and it has room, where all have
+  pub later-room : (i n : ℕ) → 1 ≤ i → i < n → length (laterEntries (later i)) + length (entryBytes (getD conditions i 0) (getD actions i 0)) ≤ length (laterEntries (later n))
+  later-room i zero h l = absurd (omega arith)
+  later-room i (suc n) h l = elim (decLe (suc i) n) [
+    | yes k ↦ omega (arith, later-room i n h k, grown n (omega arith))
+    | no k ↦ let same : n ≡ i = omega arith in rw same (omega (arith, grown i h))
+  ]
+    where
+      grown : (i : ℕ) → 1 ≤ i → length (laterEntries (later (suc i))) ≡ length (laterEntries (later i)) + length (entryBytes (getD conditions i 0) (getD actions i 0))
+      grown i h =
+          ap (λ (k : ℕ). length (laterEntries (later k))) (sym (add-one i)) ∙ ap length (later-grown i h)
+          ∙ length-append (laterEntries (later i)) (entryBytes (getD conditions i 0) (getD actions i 0))
 
-  head-length : (n : ℕ) → length (head n) ≡ 12
-  head-length n = omega (arith, length-append (toBytes 2 n) (conditionBytes (getD conditions 0 0)), to-length 2 n, condition-length (getD conditions 0 0))
+  -- ---- the whole tree: its first entry, the others, END
 
-  pub tree-written : (l : List ℕ) (n at : ℕ) → 1 ≤ n → at + 2 ≡ 14 * n → at + 1 ≤ length l
-      → set (sets (sets (sets (set l 0 FALLBACK) 1 (toBytes 2 n)) 3 (conditionBytes (getD conditions 0 0))) 12 (laterEntries (later n))) at END-OF-TREE
-      ≡ treeBytes (lines n) ++ drop (14 * n - 1) l
-  tree-written l zero at h e r = absurd (omega arith)
-  tree-written l (suc n) at h e r =
-      let count : 0 < length (lines (suc n)) = omega (arith, length-prefix lineAt (suc n)) in
-      let bytes : 0 + length (treeBytes (lines (suc n))) ≡ 14 * suc n - 1 = omega (arith, tree-length (lines (suc n)) count, length-prefix lineAt (suc n)) in
-      let entries = laterEntries (later (suc n)) in
-      ap (λ (x : List ℕ). set x at END-OF-TREE)
-      (ap (λ (x : List ℕ). sets x 12 entries)
-      (ap (λ (x : List ℕ). sets x 3 (conditionBytes (getD conditions 0 0))) (sets-after l (FALLBACK ∷ []) (toBytes 2 (suc n)) 0 1 refl)
-      ∙ sets-after l (FALLBACK ∷ toBytes 2 (suc n)) (conditionBytes (getD conditions 0 0)) 0 3 (omega (arith, to-length 2 (suc n))))
-      ∙ sets-after l (head (suc n)) entries 0 12 (omega (arith, head-length (suc n))))
-      ∙ sets-after l (head (suc n) ++ entries) (END-OF-TREE ∷ []) 0 at
-      (omega (arith, length-append (head (suc n)) entries, head-length (suc n), entries-length (later (suc n)), later-size n))
-      ∙ ap (sets l 0) (sym (tree-split n))
-      ∙ sets-eq (treeBytes (lines (suc n))) l 0 (omega (arith, bytes))
-      ∙ ap (λ (k : ℕ). treeBytes (lines (suc n)) ++ drop k l) bytes
+  module _ (n : ℕ) (some : 1 ≤ n) where
+    split : treeEntries conditions actions n ≡ entry 0 ∷ later n
+    split = by-size n some
+      where
+        by-size : (k : ℕ) → 1 ≤ k → treeEntries conditions actions k ≡ entry 0 ∷ later k
+        by-size zero h = absurd (omega arith)
+        by-size (suc k) h = entries-split k
+
+    count : length (entry 0 ∷ later n) ≡ n
+    count = ap length (sym split) ∙ length-prefix entry n
+
+    pub tree-room : length (treeBytes (treeEntries conditions actions n))
+        ≡ length (firstBytes n (getD conditions 0 0)) + length (laterEntries (later n)) + length endBytes
+    tree-room = ap (λ (l : List (Entry Condition)). length (treeBytes l)) split ∙ parts-size (entry 0) (later n)
+        ∙ ap (λ (k : ℕ). length (firstBytes k (getD conditions 0 0)) + length (laterEntries (later n)) + length endBytes) count
+
+    pub tree-put : {l between others after : List ℕ} {first next past : ℕ} → Puts (firstBytes n (getD conditions 0 0)) 0 l between first
+        → Puts (laterEntries (later n)) first between others next → Puts endBytes next others after past
+        → Puts (treeBytes (treeEntries conditions actions n)) 0 l after past
+    unfolding treeBytes
+    tree-put {l} {after = after} {past = past} p q e =
+        subst (λ (b : List ℕ). Puts b 0 l after past)
+        (ap (λ (k : ℕ). firstBytes k (getD conditions 0 0) ++ (laterEntries (later n) ++ endBytes)) (sym count) ∙ ap treeBytes (sym split))
+        (puts-then p (puts-then q e))

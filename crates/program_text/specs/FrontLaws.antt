@@ -27,8 +27,8 @@ use Rattle.job.specs.Job.{jobAt}
 use Rattle.job.specs.Validation.{validatedJob}
 use Rattle.table.specs.Read.{allowed, dueIn, due, readEnd, readGoal, readJobs, readTable, factsInRange}
 use Rattle.table.specs.ReadLaws.{facts-inside, end-inside, goal-inside, job-inside}
-use Rattle.planner.specs.Plan.{laid}
-use Rattle.program_text.specs.Program.{startSize, laidFiles, programText}
+use Rattle.planner.specs.Plan.{startFor, planFor}
+use Rattle.program_text.specs.Program.{startSize, filesPlan, programText}
 use Rattle.program_text.specs.Files.{widestIn, widest, tableFront, startFront, Holds}
 
 -- ---- no command that may stand at a stage is wider than the widest
@@ -173,7 +173,7 @@ module _ (buffer file : List ℕ) (count : ℕ) (k : Holds buffer count file) wh
 module _ {table start tableFile startFile : List ℕ} {n m : ℕ} where
   pub text-held : Holds table n tableFile → Holds start m startFile → tableFront ≤ length table → startFront ≤ length start
       → programText (take n table) (take m start) ≡ programText tableFile startFile
-  unfolding programText laidFiles laid
+  unfolding programText filesPlan planFor startFor
   text-held t s h k =
       rw (table-held table tableFile n t h)
       (elim (decLe (length startFile) (length start)) [

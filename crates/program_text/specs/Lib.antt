@@ -3,4 +3,3 @@ pub mod Files
 pub mod Shows
 pub mod ProgramLaws
 pub mod FrontLaws
-pub mod Cases

@@ -1,12 +1,10 @@
+-- definitions
 pub mod Tree
 pub mod ReadTree
 pub mod Tick
-pub mod TickLaws
 pub mod TickBytes
+-- laws
+pub mod ReadTreeLaws
+pub mod TickLaws
 pub mod TickBytesLaws
-pub mod Walk
-pub mod ReadLaws
-pub mod WalkLaws
-pub mod WalkSteps
-pub mod Promises
 pub mod Cases

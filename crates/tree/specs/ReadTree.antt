@@ -1,8 +1,8 @@
 -- The tree reader: from bytes to the tree, or to the number and place of the first stop (document 01, "Stops, in checking order", 13 to 15).
 -- "In a tree, its length first, then nodes in byte order, then END." Within a node 13 comes before 14, and 14 before 15.
--- Assumes nothing.
+-- Definitions only.
 use Prim.Native.Nat.{ℕ, zero, suc, _+_, _-_}
-use mathlib.Core.Bool.{_&&_}
+use mathlib.Core.Bool.{Bool, _&&_}
 use mathlib.Core.List.{List}
 use lib.Dec.{eqb, ltb, leb}
 use lib.ListN.{length, getD}
@@ -11,11 +11,15 @@ use Rattle.masks.specs.Sets.{within}
 use Rattle.refusal.specs.Checked.{Checked, accepted, refused, andThen}
 use Rattle.commands.specs.declared.Found.{Found}
 use Rattle.commands.specs.declared.Found.the-variants.{Missing, Unknown, Cut, Whole}
-use Rattle.commands.specs.Commands.{FALLBACK, SEQUENCE, CONDITION, JOB-LEAF, END-OF-TREE, commandAt}
+use Rattle.commands.specs.Commands.{FALLBACK, SEQUENCE, CONDITION, JOB-LEAF, END-OF-TREE, OPERANDS-AT, MASK-WIDTH, Past, commandAt}
 use Rattle.numbers.specs.Numbers.{numberAt}
 use Rattle.tree.specs.declared.Kind.{Kind}
 use Rattle.tree.specs.declared.Kind.the-variants.{Fallback, Sequence}
-use Rattle.tree.specs.Tree.{Tree, Row, condition, action, node, one, more}
+use Rattle.tree.specs.declared.Leaf.{Leaf}
+use Rattle.tree.specs.declared.Leaf.the-variants.{Condition, Action}
+use Rattle.tree.specs.declared.NodeRead.{NodeRead}
+use Rattle.tree.specs.Tree as Tree
+use Rattle.tree.specs.Tree.{Tree, Row, node, one, more}
 
 abbrev pub maxTreeBytes : ℕ
 maxTreeBytes = 65_535
@@ -31,13 +35,7 @@ maxDepth = 16
 pub data Node : Type 0 where
   -- how many children follow
   branch : Kind → (count : ℕ) → Node
-  asks : (mask : ℕ) → Node
-  does : (job : ℕ) → Node
-
--- what was read, and the offset past it
-pub record Past (A : Type 0) : Type 0 where
-  pub value : A
-  pub next : ℕ
+  leaf : Leaf → Node
 
 -- ---- 13: "A tree is over 65,535 bytes, is cut, has a table command, an unknown one or a child count outside 1 to 4,096, has END where a node is
 -- due, lacks END after its root, or goes on after it."
@@ -52,16 +50,27 @@ wholeIn s at (Whole byte next) = accepted (record { value = byte; next = next })
 unfoldable pub wholeAt : List ℕ → ℕ → Checked (Past ℕ)
 wholeAt s at = wholeIn s at (commandAt s at)
 
+abbrev pub kindByte : Kind → ℕ
+kindByte Fallback = FALLBACK
+kindByte Sequence = SEQUENCE
+
+-- "child count, 2"
+abbrev pub countWidth : ℕ
+countWidth = 2
+
+abbrev pub countAt : List ℕ → ℕ → ℕ
+countAt s at = numberAt countWidth s (at + OPERANDS-AT)
+
 abbrev pub childCount : Kind → ℕ → ℕ → Checked Node
 childCount kind at n = if leb 1 n && leb n maxChildren then accepted (branch kind n) else refused 13 at
 
 -- a node's command, and its operands after it
 unfoldable pub operandsOf : List ℕ → ℕ → ℕ → Checked Node
 operandsOf s at byte =
-    if eqb byte FALLBACK then childCount Fallback at (numberAt 2 s (at + 1))
-    else if eqb byte SEQUENCE then childCount Sequence at (numberAt 2 s (at + 1))
-    else if eqb byte CONDITION then accepted (asks (numberAt 8 s (at + 1)))
-    else if eqb byte JOB-LEAF then accepted (does (getD s (at + 1) 0))
+    if eqb byte FALLBACK then childCount Fallback at (countAt s at)
+    else if eqb byte SEQUENCE then childCount Sequence at (countAt s at)
+    else if eqb byte CONDITION then accepted (leaf (Condition (numberAt MASK-WIDTH s (at + OPERANDS-AT))))
+    else if eqb byte JOB-LEAF then accepted (leaf (Action (getD s (at + OPERANDS-AT) 0)))
     else refused 13 at
 
 unfoldable pub nodeAt : List ℕ → ℕ → Checked (Past Node)
@@ -75,6 +84,11 @@ readEnd s t at =
 
 -- ---- the nodes, in byte order
 
+-- 15: "A tree mask has a bit at or above F, or a job number is not below the job count."
+abbrev pub inRange : ℕ → ℕ → Leaf → Bool
+inRange facts jobs (Condition c) = within facts c
+inRange facts jobs (Action job) = ltb job jobs
+
 -- a row of one child and n more, each read by `child`
 unfoldable pub readRow : (ℕ → Checked (Past Tree)) → ℕ → ℕ → Checked (Past Row)
 readRow child zero at = andThen (child at) λ t. accepted (record { value = one (t .value); next = t .next })
@@ -83,11 +97,10 @@ readRow child (suc n) at =
     andThen (readRow child n (t .next)) λ row.
     accepted (record { value = more (t .value) (row .value); next = row .next })
 
--- A node that is not too deep, at an offset. 15: "A tree mask has a bit at or above F, or a job number is not below the job count."
+-- a node that is not too deep, at an offset, with the offset past its operands
 abbrev pub readOperands : (ℕ → Checked (Past Tree)) → ℕ → ℕ → ℕ → ℕ → Node → Checked (Past Tree)
 readOperands child facts jobs at next (branch kind n) = andThen (readRow child (n - 1) next) λ row. accepted (record { value = node kind (row .value); next = row .next })
-readOperands child facts jobs at next (asks mask) = if within facts mask then accepted (record { value = condition mask at; next = next }) else refused 15 at
-readOperands child facts jobs at next (does job) = if ltb job jobs then accepted (record { value = action job at; next = next }) else refused 15 at
+readOperands child facts jobs at next (leaf x) = if inRange facts jobs x then accepted (record { value = Tree.leaf x at; next = next }) else refused 15 at
 
 -- The node at an offset, with so many levels left for it and what is below it. 14: "A tree node is deeper than 16."
 unfoldable pub readNode : List ℕ → ℕ → ℕ → ℕ → ℕ → Checked (Past Tree)
@@ -99,3 +112,10 @@ unfoldable pub readTree : List ℕ → ℕ → ℕ → Checked Tree
 readTree s facts jobs =
     let nodes = andThen (readNode s facts jobs maxDepth 0) (λ root. readEnd s (root .value) (root .next)) in
     if leb (length s) maxTreeBytes then nodes else refused 13 0
+
+-- ---- the answer of the code, in these terms
+
+abbrev pub nodeReadOf : NodeRead → Checked (Past Node)
+nodeReadOf (NodeRead.Branch kind count next) = accepted (record { value = branch kind count; next = next })
+nodeReadOf (NodeRead.Leaf x next) = accepted (record { value = leaf x; next = next })
+nodeReadOf (NodeRead.Malformed place) = refused 13 place

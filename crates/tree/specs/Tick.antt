@@ -1,26 +1,33 @@
 -- The tick of a tree on a reading: document 01, "Ticking".
--- Assumes nothing.
+-- Definitions only.
 use Prim.Native.Nat.{ℕ}
 use mathlib.Core.Bool.{Bool, true, false}
 use mathlib.Core.List.{List, [], _∷_}
-use lib.Bits.{bitAnd}
 use lib.ListN.{getD}
 use Rattle.base.specs.Bools.{if_then_else_}
-use Rattle.masks.specs.Sets.{subset, intersects, union}
 use Rattle.reading.specs.declared.Reading.{Reading}
+use Rattle.conditions.specs.declared.Evaluation.{Evaluation}
+use Rattle.conditions.specs.declared.Evaluation.the-variants.{Met, Missed, Open}
+use Rattle.conditions.specs.OnReading.{evaluated}
 use Rattle.tree.specs.declared.Kind.{Kind}
 use Rattle.tree.specs.declared.Kind.the-variants.{Fallback, Sequence}
+use Rattle.tree.specs.declared.Leaf.{Leaf}
+use Rattle.tree.specs.declared.Leaf.the-variants.{Condition, Action}
 use Rattle.tree.specs.declared.Status.{Status}
 use Rattle.tree.specs.declared.Status.the-variants.{Success, Failure, Running, Unsettled}
-use Rattle.tree.specs.Tree.{Tree, Row, condition, action, node, one, more}
+use Rattle.tree.specs.Tree.{Tree, Row, leaf, node, one, more}
 
 -- "A condition fails if one of its facts is read and absent; otherwise it is unsettled, with the mask of its unread facts, if it has any; otherwise
 -- it succeeds."
-unfoldable pub judged : Reading → ℕ → Status
-judged r mask =
-    if subset mask (union (r .held) (r .unread))
-    then (if intersects mask (r .unread) then Unsettled (bitAnd mask (r .unread)) else Success)
-    else Failure
+abbrev pub statusOf : Evaluation → Status
+statusOf Met = Success
+statusOf Missed = Failure
+statusOf (Open unread) = Unsettled unread
+
+abbrev pub leafAnswer : Reading → Leaf → Status
+leafAnswer r (Condition c) = statusOf (evaluated r c)
+-- "A job leaf answers Running with its number."
+leafAnswer r (Action job) = Running job
 
 -- "Whether to go on is read from two rows of four, by node and by Success, Failure, Running, Unsettled."
 
@@ -50,9 +57,7 @@ pub record Verdict : Type 0 where
 module _ (rows : List (List Bool)) (r : Reading) where
   unfoldable mutual
     pub tickBy : Tree → Verdict
-    tickBy (condition mask at) = record { answer = judged r mask; leaf = at }
-    -- "A job leaf answers Running with its number."
-    tickBy (action job at) = record { answer = Running job; leaf = at }
+    tickBy (leaf x at) = record { answer = leafAnswer r x; leaf = at }
     tickBy (node kind row) = tickRow row kind
 
     pub tickRow : Row → Kind → Verdict

@@ -1,18 +1,17 @@
--- The whole entry point, from the bytes of a table and of a tree, and what it promises: document 01, "Ticking" and "Stops, in checking order".
--- Assumes nothing.
+-- A tick from the bytes of a table and of a tree, and when its answer is settled: document 01, "Ticking" and "Stops, in checking order".
+-- Definitions only.
 use Prim.Native.Nat.{ℕ}
 use mathlib.Core.Path.{_≡_}
 use mathlib.Core.Bool.{Bool, true, false}
 use mathlib.Core.List.{List}
 use lib.ListN.{length}
 use Rattle.base.specs.Bools.{if_then_else_}
-use Rattle.refusal.specs.Checked.{Checked, accepted, refused, refusedBy, andThen}
+use Rattle.refusal.specs.Checked.{Checked, accepted, refused, andThen}
 use Rattle.reading.specs.declared.Reading.{Reading}
 use Rattle.reading.specs.Reading.{sound, Completes, state}
 use Rattle.table.specs.Read.{readTable}
 use Rattle.tree.specs.declared.Status.{Status}
 use Rattle.tree.specs.declared.Status.the-variants.{Success, Failure, Running, Unsettled}
-use Rattle.tree.specs.declared.Ticked.{Ticked}
 use Rattle.tree.specs.ReadTree.{readTree}
 use Rattle.tree.specs.Tick.{Verdict, tickTree}
 
@@ -24,21 +23,6 @@ tickChecked facts jobs tree r =
 -- the table's own stops first, then the reading (8), then the tree (13 to 15), to its last byte; then the tick
 unfoldable pub tickBytes : List ℕ → List ℕ → Reading → Checked Verdict
 tickBytes table tree r = andThen (readTable table) λ t. tickChecked (t .facts) (length (t .jobs)) tree r
-
--- ---- the answers of the code, in these terms
-
-abbrev pub answerOf : Ticked → Checked Status
-answerOf Ticked.Success = accepted Success
-answerOf Ticked.Failure = accepted Failure
-answerOf (Ticked.Running job) = accepted (Running job)
-answerOf (Ticked.Unsettled mask) = accepted (Unsettled mask)
-answerOf (Ticked.Refused x) = refusedBy x
-
-abbrev pub tickedBy : Status → Ticked
-tickedBy Success = Ticked.Success
-tickedBy Failure = Ticked.Failure
-tickedBy (Running job) = Ticked.Running job
-tickedBy (Unsettled mask) = Ticked.Unsettled mask
 
 abbrev pub answered : Checked Verdict → Checked Status
 answered r = andThen r λ v. accepted (v .answer)
@@ -52,12 +36,10 @@ isSettled (Running job) = true
 isSettled (Unsettled mask) = false
 
 -- However the unread facts turn out, the same leaf of the tree decides, and the answer is the same.
-pub record Settled (table tree : List ℕ) (r : Reading) (a : Status) : Type 0 where
+pub record SettledBy (tick : Reading → Checked Verdict) (r : Reading) (a : Status) : Type 0 where
   pub leaf : ℕ
-  pub here : tickBytes table tree r ≡ accepted (record { answer = a; leaf = leaf })
-  pub everywhere : (s : ℕ) → Completes r s → tickBytes table tree (state s) ≡ accepted (record { answer = a; leaf = leaf })
+  pub here : tick r ≡ accepted (record { answer = a; leaf = leaf })
+  pub everywhere : (s : ℕ) → Completes r s → tick (state s) ≡ accepted (record { answer = a; leaf = leaf })
 
--- What a tick answers, for every input: the definition's answer or refusal, and Success, Failure or Running only where it is settled.
-pub record Answers (table tree : List ℕ) (r : Reading) (ticked : Ticked) : Type 0 where
-  pub answer : answerOf ticked ≡ answered (tickBytes table tree r)
-  pub settled : (a : Status) → answerOf ticked ≡ accepted a → isSettled a ≡ true → Settled table tree r a
+abbrev pub Settled : List ℕ → List ℕ → Reading → Status → Type 0
+Settled table tree = SettledBy (tickBytes table tree)

@@ -1,21 +1,24 @@
--- `flat::put_condition` meets its contract: the command byte and its mask, one after the other.
+-- `flat::put_condition` meets its contract: the command byte, and its mask after it.
 -- Assumes nothing.
-use native.Mathlib.Omega.{arith}
-use borrow.Author.Needs.{needs}
+use Rattle.flat.specs.TreeBytesLaws.{condition-size, condition-put}
 use mathlib.Core.Path.{_∙_}
 use lib.ListN.{length-set}
-use Rattle.flat.specs.TreeBytesLaws.{condition-written}
+use borrow.Author.Needs.{needs}
+use native.Mathlib.Omega.{arith}
 use Rattle.flat.proofs.put_condition.Statement.{statement}
 use Rattle.flat.proofs.put_condition.Tie as tie
 
 slice-write-tree : tie.Need-slice-write-tree
-slice-write-tree c = search needs
+slice-write-tree c = omega (arith, condition-size (c .before .args .condition))
 
 add-write-u64 : tie.Need-add-write-u64
 add-write-u64 c = search needs
 
 write-u64-requires : tie.Need-write-u64-requires
-write-u64-requires c κs = simp length-set (omega arith)
+write-u64-requires c κs = simp length-set (omega (arith, condition-size (c .before .before .args .condition)))
+
+add-result : tie.Need-add-result
+add-result c = search needs
 
 same-length : tie.Need-same-length
 same-length c = c .before .before .write-u64 .kept .0 ∙ simp length-set
@@ -23,8 +26,9 @@ same-length c = c .before .before .write-u64 .kept .0 ∙ simp length-set
 returns : tie.Need-returns
 returns c =
     let a = c .before .before .before .before .before .args in
-    c .before .before .write-u64 .ensures ∙ condition-written (a .tree .now) (a .at) (a .mask)
+    rw (c .before .before .write-u64 .ensures) (condition-put (a .tree .now) (a .at) (a .condition))
 
 pub put-condition-spec : {M : Type 1} → statement M
 put-condition-spec =
-    tie.close (tie.spec slice-write-tree add-write-u64 write-u64-requires same-length returns)
+    tie.close
+    (tie.spec slice-write-tree add-write-u64 write-u64-requires add-result same-length returns)

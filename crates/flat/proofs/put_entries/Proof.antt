@@ -1,27 +1,34 @@
--- `flat::put_entries` meets its contract. The loop's invariant: the entries passed are written, each 14 bytes after the one before it.
--- The measure is the number of entries left.
+-- `flat::put_entries` meets its contract. The loop's invariant: the entries passed are put, one after the other. The measure is the number of
+-- entries left.
 -- Assumes nothing.
+use Rattle.flat.specs.TreeBytes.{laterEntries, treeEntries, Puts}
+use Rattle.flat.specs.TreeBytesLaws.{later-none, later-put, later-room}
+use mathlib.Core.Path.{_≡_}
+use Prim.Native.Nat.{_-_, _≤_}
+use lib.ListN.{length, drop}
 use borrow.Author.Needs.{needs}
 use native.Mathlib.Omega.{arith}
-use mathlib.Core.Path.{_≡_, refl, _∙_}
-use Prim.Native.Nat.{_+_, _*_, _-_, _≤_}
-use lib.ListN.{length}
-use lib.Seq.{sets}
-use Rattle.flat.specs.TreeBytes.{laterEntries}
-use Rattle.flat.specs.TreeBytesLaws.{later, entries-written}
 use Rattle.flat.proofs.put_entries.Statement.{statement}
 use Rattle.flat.proofs.put_entries.Tie as tie
 
 abbrev Inv-loop : tie.InvT-loop
-Inv-loop n conditions actions tree₀ at₀ i₀ tree at i =
-    ((1 ≤ i) × (i ≤ n) × (at + 2 ≡ 14 * i) × (length tree ≡ length tree₀)) × (tree ≡ sets tree₀ 12 (laterEntries (later conditions actions i)))
+Inv-loop n conditions actions tree₀ first at₀ i₀ tree at i =
+    ((1 ≤ i) × (i ≤ n) × (length tree ≡ length tree₀)) × Puts (laterEntries (drop 1 (treeEntries conditions actions i))) first tree₀ tree at
 
 abbrev μ-loop : tie.MeasureT-loop
-μ-loop n conditions actions tree₀ at₀ i₀ tree at i = n - i
+μ-loop n conditions actions tree₀ first at₀ i₀ tree at i = n - i
+
+-- the head of the loop, and the function's entry
+abbrev AtLoop : Type 0
+AtLoop = tie.At-loop Inv-loop μ-loop
+
+abbrev start-of : AtLoop → tie.Start Inv-loop μ-loop
+start-of c = c .before .before .before .before
 
 loop-holds : tie.Need-loop-holds Inv-loop μ-loop
-unfolding laterEntries
-loop-holds c = (omega arith, refl)
+loop-holds c =
+    let a = c .before .before .before .args in
+    (omega (arith, c .before .before .before .pre), later-none (a .conditions .now) (a .actions .now) (a .tree .now) (a .first))
 
 mul-put-later : tie.Need-mul-put-later Inv-loop μ-loop
 mul-put-later c = search needs
@@ -33,10 +40,16 @@ shared-slice-read-put-later-2 : tie.Need-shared-slice-read-put-later-2 Inv-loop 
 shared-slice-read-put-later-2 c = search needs
 
 put-later-requires : tie.Need-put-later-requires Inv-loop μ-loop
-put-later-requires c κs = search needs
-
-add-at : tie.Need-add-at Inv-loop μ-loop
-add-at c = search needs
+put-later-requires c κs =
+    let l = c .before .before .before .before in
+    let s = start-of l in
+    omega (
+      arith,
+      s .pre,
+      l .loop .inv .0,
+      l .loop .inv .1 .past,
+      later-room (s .args .conditions .now) (s .args .actions .now) (l .loop .i) (s .args .n) (l .loop .inv .0 .0) (c .before .before .before .loop-test .taken),
+    )
 
 add-i : tie.Need-add-i Inv-loop μ-loop
 add-i c = search needs
@@ -46,10 +59,11 @@ loop-less c = search needs
 
 loop-again : tie.Need-loop-again Inv-loop μ-loop
 loop-again c =
-    let l = c .before .before .before .before .before .before .before .loop in
-    let a = c .before .before .before .before .before .before .before .before .before .before .before .args in (
-      omega (arith, c .before .before .put-later .kept .0),
-      c .before .before .put-later .ensures ∙ entries-written (a .conditions .now) (a .actions .now) _ _ (l .i) (l .at) (l .inv .0 .0) (l .inv .0 .2) (l .inv .1),
+    let put = c .before .before in
+    let l = put .before .before .before .before .before in
+    let a = start-of l .args in (
+      omega (arith, put .put-later .kept .0, l .loop .inv .0, put .before .before .before .before .loop-test .taken),
+      later-put (a .conditions .now) (a .actions .now) (l .loop .inv .0 .0) (l .loop .inv .1) (put .put-later .ensures),
     )
 
 same-length : tie.Need-same-length Inv-loop μ-loop
@@ -57,8 +71,8 @@ same-length c = search needs
 
 returns : tie.Need-returns Inv-loop μ-loop
 returns c =
-    let n : c .before .loop .i ≡ c .before .before .before .before .before .args .n = omega arith in
-    rw n at (c .before .loop .inv .1)
+    let all : c .before .loop .i ≡ start-of (c .before) .args .n = omega (arith, c .before .loop .inv .0, c .loop-test .left) in
+    rw all at (c .before .loop .inv .1)
 
 pub put-entries-spec : {M : Type 1} → statement M
 put-entries-spec =
@@ -71,7 +85,6 @@ put-entries-spec =
     shared-slice-read-put-later
     shared-slice-read-put-later-2
     put-later-requires
-    add-at
     add-i
     loop-less
     loop-again

@@ -1,0 +1,55 @@
+-- The tick of a list's tree, entry by entry, and what is said of its answers: document 01, "Ticking".
+-- Definitions only.
+use Prim.Native.Nat.{ℕ, _<_}
+use mathlib.Core.Path.{_≡_}
+use mathlib.Core.List.{List, [], _∷_}
+use lib.Dec.{T}
+use lib.ListN.{length, getD}
+use Rattle.reading.specs.declared.Reading.{Reading}
+use Rattle.conditions.specs.declared.Evaluation.{Evaluation}
+use Rattle.conditions.specs.declared.Evaluation.the-variants.{Met, Missed, Open}
+use Rattle.conditions.specs.Condition.{Condition, satisfied}
+use Rattle.conditions.specs.OnReading.{evaluated, Confirmed}
+use Rattle.planning.specs.Expansion.{Entry}
+use Rattle.tree.specs.declared.Status.{Status}
+use Rattle.tree.specs.declared.Status.the-variants.{Success, Failure, Running, Unsettled}
+use Rattle.tree.specs.Tick.{Verdict}
+use Rattle.flat.specs.TreeBytes.{conditionAt, actionAt, pastEntry, rootConditionAt}
+use Rattle.flat.specs.FlatTree.{laterAt}
+
+abbrev pub verdict : Status → ℕ → Verdict
+verdict a leaf = record { answer = a; leaf = leaf }
+
+module _ (r : Reading) where
+  -- the entries after the first, from an offset on; the leaf before them failed
+  unfoldable pub laterVerdict : ℕ → List (Entry Condition) → ℕ → Verdict
+  laterVerdict before [] at = verdict Failure before
+  laterVerdict before (x ∷ l) at =
+      elim (evaluated r (x .condition)) [
+        | Met ↦ verdict (Running (x .action)) (actionAt x at)
+        | Missed ↦ laterVerdict (conditionAt at) l (pastEntry x at)
+        | Open m ↦ verdict (Unsettled m) (conditionAt at)
+      ]
+
+  -- a list of entry 0 and others
+  unfoldable pub listVerdict : Entry Condition → List (Entry Condition) → Verdict
+  listVerdict x l =
+      elim (evaluated r (x .condition)) [
+        | Met ↦ verdict Success (rootConditionAt (length (x ∷ l)))
+        | Missed ↦ laterVerdict (rootConditionAt (length (x ∷ l))) l (laterAt (length (x ∷ l)) x)
+        | Open m ↦ verdict (Unsettled m) (rootConditionAt (length (x ∷ l)))
+      ]
+
+-- ---- entries by their places; `none` is what stands past the last one
+
+module _ (none : Entry Condition) where
+  -- the job is that of an entry whose condition is read and held
+  pub record Named (l : List (Entry Condition)) (r : Reading) (job : ℕ) : Type 0 where
+    pub at : ℕ
+    pub inside : at < length l
+    pub is-action : getD l at none .action ≡ job
+    pub confirmed : Confirmed r (getD l at none .condition)
+
+  -- a state meets no listed condition
+  abbrev pub NoneMet : List (Entry Condition) → ℕ → Type 0
+  NoneMet l s = (i : ℕ) → i < length l → T (satisfied (getD l i none .condition) s) → ⊥

@@ -1,0 +1,190 @@
+-- The bytes of a list's tree are read back as its tree.
+-- Assumes nothing.
+use Prim.Native.Nat.{ℕ, suc, _+_, _-_, _^_, _≤_, _<_}
+use native.Mathlib.Nat.{add-zero, zero-add}
+use native.Mathlib.Omega.{arith}
+use mathlib.Core.Path.{_≡_, refl, sym, ap, _∙_}
+use mathlib.Core.Bool.{true}
+use mathlib.Core.List.{List, [], _∷_, _++_, append-assoc}
+use lib.Dec.{T}
+use lib.ListN.{length, getD, drop, length-drop, length-append}
+use lib.Seq.{drop-drop, drop-at, getD-drop}
+use borrow.Author.Tests.{lt-ltb, le-leb, eq-eqb}
+use Rattle.base.specs.Bools.{is-true}
+use Rattle.masks.specs.Sets.{within}
+use Rattle.masks.specs.Laws.{within-word}
+use Rattle.refusal.specs.Checked.{accepted}
+use Rattle.commands.specs.declared.Found.the-variants.{Whole}
+use Rattle.commands.specs.Commands.{CONDITION, JOB-LEAF, END-OF-TREE, END-OF-TREE-SIZE, OPERANDS-AT, MASK-WIDTH, widthOf, commandAt}
+use Rattle.commands.specs.CommandLaws.{at-whole}
+use Rattle.numbers.specs.Numbers.{toBytes, numberAt}
+use Rattle.numbers.specs.NumberLaws.{from-to, read-drop}
+use Rattle.reading.specs.declared.Reading.{Reading}
+use Rattle.reading.specs.Reading.{sound}
+use Rattle.conditions.specs.Condition.{Condition}
+use Rattle.table.specs.Table.{Table}
+use Rattle.table.specs.Read.{readTable}
+use Rattle.planning.specs.Expansion.{Entry}
+use Rattle.tree.specs.declared.Kind.{Kind}
+use Rattle.tree.specs.declared.Kind.the-variants.{Fallback, Sequence}
+use Rattle.tree.specs.declared.Leaf.the-variants as Leaf
+use Rattle.tree.specs.Tree as Tree
+use Rattle.tree.specs.Tree.{Tree, node}
+use Rattle.tree.specs.ReadTree.{maxTreeBytes, maxChildren, maxDepth, branch, leaf, wholeAt, kindByte, countWidth, countAt, nodeAt, readEnd, readRow, readNode, readTree}
+use Rattle.tree.specs.ReadTreeLaws.{condition-whole, action-whole, branch-counted}
+use Rattle.tree.specs.Tick.{tickTree}
+use Rattle.tree.specs.TickBytes.{tickChecked, tickBytes}
+use Rattle.tree.specs.TickBytesLaws.{bytes-read}
+use Rattle.flat.specs.TreeBytes.{branchBytes, conditionBytes, actionBytes, endBytes, firstBytes, entryBytes, laterEntries, treeBytes, conditionAt, actionAt, pastEntry, rootConditionAt}
+use Rattle.flat.specs.TreeBytesLaws.{branch-size, condition-size, action-size, tree-length}
+use Rattle.flat.specs.FlatTree.{laterTree, rowFrom, rootTree, laterAt, treeOf, Each, Fits}
+
+-- ---- bytes that stand at an offset
+
+drop-next : (s xs ys : List ℕ) (at : ℕ) → drop at s ≡ xs ++ ys → drop (at + length xs) s ≡ ys
+drop-next s xs ys at e = sym (drop-drop (length xs) at s) ∙ ap (drop (length xs)) e ∙ drop-at xs ys (length xs) refl
+
+here : (s xs : List ℕ) (at x : ℕ) → drop at s ≡ x ∷ xs → getD s at 0 ≡ x
+here s xs at x e = ap (λ (k : ℕ). getD s k 0) (sym (add-zero at)) ∙ sym (getD-drop at s 0 0) ∙ ap (λ (l : List ℕ). getD l 0 0) e
+
+room : (s xs ys : List ℕ) (at : ℕ) → drop at s ≡ xs ++ ys → length s - at ≡ length xs + length ys
+room s xs ys at e = sym (length-drop at s) ∙ ap length e ∙ length-append xs ys
+
+-- ---- nodes that stand at an offset
+
+module _ (s rest : List ℕ) (at : ℕ) where
+  node-condition : (c : Condition) → c < 2 ^ 64 → drop at s ≡ conditionBytes c ++ rest
+      → accepted (record { value = leaf (Leaf.Condition c); next = at + length (conditionBytes c) }) ≡ nodeAt s at
+  unfolding conditionBytes toBytes numberAt
+  node-condition c h e =
+      let value : numberAt MASK-WIDTH s (at + OPERANDS-AT) ≡ c =
+      read-drop MASK-WIDTH s at OPERANDS-AT ∙ ap (λ (l : List ℕ). numberAt MASK-WIDTH l OPERANDS-AT) e ∙ from-to MASK-WIDTH c h in
+      let size = room s (conditionBytes c) rest at e in
+      rw value at (condition-whole s at (omega arith) (here s _ at CONDITION e) (omega arith))
+
+  node-action : (job : ℕ) → drop at s ≡ actionBytes job ++ rest → accepted (record { value = leaf (Leaf.Action job); next = at + length (actionBytes job) }) ≡ nodeAt s at
+  unfolding actionBytes
+  node-action job e =
+      let value : getD s (at + OPERANDS-AT) 0 ≡ job = here s rest (at + OPERANDS-AT) job (drop-next s (JOB-LEAF ∷ []) (job ∷ rest) at e) in
+      let size = room s (actionBytes job) rest at e in
+      rw value at (action-whole s at (omega arith) (here s _ at JOB-LEAF e) (omega arith))
+
+  node-branch : (kind : Kind) (n : ℕ) → 1 ≤ n → n ≤ maxChildren → drop at s ≡ branchBytes kind n ++ rest
+      → accepted (record { value = branch kind n; next = at + length (branchBytes kind n) }) ≡ nodeAt s at
+  unfolding toBytes numberAt
+  node-branch kind n lo hi e =
+      let value : countAt s at ≡ n = read-drop countWidth s at OPERANDS-AT ∙ ap (λ (l : List ℕ). numberAt countWidth l OPERANDS-AT) e ∙ from-to countWidth n (omega arith) in
+      let size = room s (branchBytes kind n) rest at e in
+      rw value at (branch-counted s at (omega arith) kind (here s _ at (kindByte kind) e) (omega arith) (λ z. omega (arith, value)) (rw value hi))
+
+end-read : (s : List ℕ) (at : ℕ) (t : Tree) → drop at s ≡ endBytes → readEnd s t at ≡ accepted t
+unfolding readEnd wholeAt widthOf
+end-read s at t e =
+    let size = room s endBytes [] at e in
+    let b = here s [] at END-OF-TREE e in
+    let whole : commandAt s at ≡ Whole (getD s at 0) (at + 1 + 0) = at-whole s at (omega arith) 0 (rw b) (omega arith) in
+    rw (whole, b, eq-eqb (at + 1 + 0) (length s) (omega arith))
+
+-- ---- entries, for a table with so many facts and jobs
+
+module _ (s : List ℕ) (facts jobs : ℕ) (few : facts ≤ 64) where
+  condition-read : (levels at : ℕ) (c : Condition) (rest : List ℕ) → T (within facts c) → drop at s ≡ conditionBytes c ++ rest
+      → readNode s facts jobs (suc levels) at ≡ accepted (record { value = Tree.leaf (Leaf.Condition c) at; next = at + length (conditionBytes c) })
+  unfolding readNode
+  condition-read levels at c rest w e = rw (← node-condition s rest at c (within-word facts c few w) e, is-true (within facts c) w)
+
+  action-read : (levels at job : ℕ) (rest : List ℕ) → job < jobs → drop at s ≡ actionBytes job ++ rest
+      → readNode s facts jobs (suc levels) at ≡ accepted (record { value = Tree.leaf (Leaf.Action job) at; next = at + length (actionBytes job) })
+  unfolding readNode
+  action-read levels at job rest h e = rw (← node-action s rest at job e, lt-ltb job jobs h)
+
+  later-read : (levels at : ℕ) (x : Entry Condition) (rest : List ℕ) → T (within facts (x .condition)) → x .action < jobs
+      → drop at s ≡ entryBytes (x .condition) (x .action) ++ rest
+      → readNode s facts jobs (suc (suc levels)) at ≡ accepted (record { value = laterTree x at; next = pastEntry x at })
+  unfolding readNode readRow entryBytes
+  later-read levels at x rest w h e =
+      let c = conditionBytes (x .condition) in
+      let a = actionBytes (x .action) in
+      let all : drop at s ≡ branchBytes Sequence 2 ++ (c ++ (a ++ rest)) =
+      e ∙ append-assoc (branchBytes Sequence 2) (c ++ a) rest ∙ ap (λ (l : List ℕ). branchBytes Sequence 2 ++ l) (append-assoc c a rest) in
+      let head = node-branch s (c ++ (a ++ rest)) at Sequence 2 (omega arith) (omega arith) all in
+      let from-condition = drop-next s (branchBytes Sequence 2) (c ++ (a ++ rest)) at all in
+      let first = condition-read levels (conditionAt at) (x .condition) (a ++ rest) w from-condition in
+      let second = action-read levels (actionAt x at) (x .action) rest h (drop-next s c (a ++ rest) (conditionAt at) from-condition) in
+      let past : actionAt x at + length a ≡ pastEntry x at = omega (arith, length-append (branchBytes Sequence 2) (c ++ a), length-append c a) in
+      rw (← head, first, second, past)
+
+  row-read : (levels : ℕ) (l : List (Entry Condition)) (t : Tree) (before at : ℕ) (rest : List ℕ)
+      → Each (λ x. T (within facts (x .condition))) l → Each (λ x. x .action < jobs) l
+      → readNode s facts jobs (suc (suc levels)) before ≡ accepted (record { value = t; next = at }) → drop at s ≡ laterEntries l ++ rest
+      → readRow (readNode s facts jobs (suc (suc levels))) (length l) before ≡ accepted (record { value = rowFrom t l at; next = at + length (laterEntries l) })
+  unfolding readRow rowFrom laterEntries
+  row-read levels [] t before at rest w h e d = let same : at + 0 ≡ at = omega arith in rw (e, same)
+  row-read levels (x ∷ l) t before at rest w h e d =
+      let bytes = entryBytes (x .condition) (x .action) in
+      let split = d ∙ append-assoc bytes (laterEntries l) rest in
+      let child = later-read levels at x (laterEntries l ++ rest) (w .0) (h .0) split in
+      let past : pastEntry x at + length (laterEntries l) ≡ at + length (bytes ++ laterEntries l) = omega (arith, length-append bytes (laterEntries l)) in
+      rw (e, row-read levels l (laterTree x at) at (pastEntry x at) rest (w .1) (h .1) child (drop-next s bytes (laterEntries l ++ rest) at split), past)
+
+-- ---- the whole tree
+
+module _ (facts jobs : ℕ) (x : Entry Condition) (l : List (Entry Condition)) (f : Fits facts jobs (x ∷ l)) where
+  abbrev bytes : List ℕ
+  bytes = treeBytes (x ∷ l)
+
+  abbrev size : ℕ
+  size = length (x ∷ l)
+
+  abbrev root : Tree
+  root = node Fallback (rowFrom (rootTree size x) l (laterAt size x))
+
+  from-start : (xs ys : List ℕ) → drop 0 bytes ≡ xs ++ ys → drop (length xs) bytes ≡ ys
+  from-start xs ys e = ap (λ (k : ℕ). drop k bytes) (sym (zero-add (length xs))) ∙ drop-next bytes xs ys 0 e
+
+  start : drop 0 bytes ≡ branchBytes Fallback size ++ (conditionBytes (x .condition) ++ (laterEntries l ++ endBytes))
+  unfolding treeBytes firstBytes
+  start = append-assoc (branchBytes Fallback size) (conditionBytes (x .condition)) (laterEntries l ++ endBytes)
+
+  first : drop (rootConditionAt size) bytes ≡ conditionBytes (x .condition) ++ (laterEntries l ++ endBytes)
+  first = from-start (branchBytes Fallback size) (conditionBytes (x .condition) ++ (laterEntries l ++ endBytes)) start
+
+  others : drop (laterAt size x) bytes ≡ laterEntries l ++ endBytes
+  unfolding treeBytes
+  others = from-start (firstBytes size (x .condition)) (laterEntries l ++ endBytes) refl
+
+  last : drop (laterAt size x + length (laterEntries l)) bytes ≡ endBytes
+  last = drop-next bytes (laterEntries l) endBytes (laterAt size x) others
+
+  root-read : readNode bytes facts jobs maxDepth 0 ≡ accepted (record { value = root; next = laterAt size x + length (laterEntries l) })
+  unfolding readNode firstBytes
+  root-read =
+      let head = node-branch bytes _ 0 Fallback size (f .some) (f .few) start in
+      let child = condition-read bytes facts jobs (f .facts-fit) 14 (rootConditionAt size) (x .condition) _ (f .conditions-fit .0) first in
+      let past : rootConditionAt size + length (conditionBytes (x .condition)) ≡ laterAt size x = sym (length-append (branchBytes Fallback size) (conditionBytes (x .condition))) in
+      let row = row-read bytes facts jobs (f .facts-fit) 13 l (rootTree size x) (rootConditionAt size) (laterAt size x) endBytes (f .conditions-fit .1) (f .actions-fit) (rw past at child) others in
+      let less : suc (length l) - 1 ≡ length l = omega arith in
+      let begins : 0 + length (branchBytes Fallback size) ≡ rootConditionAt size = zero-add (length (branchBytes Fallback size)) in
+      rw (← head, less, begins, row)
+
+  whole-read : readTree bytes facts jobs ≡ accepted root
+  unfolding readTree
+  whole-read =
+      let fits : length bytes ≤ maxTreeBytes = omega (arith, tree-length (x ∷ l) (omega arith), f .few) in
+      rw (le-leb (length bytes) maxTreeBytes fits, root-read) (end-read bytes (laterAt size x + length (laterEntries l)) root last)
+
+pub tree-read : (facts jobs : ℕ) (l : List (Entry Condition)) → Fits facts jobs l → readTree (treeBytes l) facts jobs ≡ accepted (treeOf l)
+unfolding treeOf
+tree-read facts jobs [] f = absurd (omega (arith, f .some))
+tree-read facts jobs (x ∷ l) f = whole-read facts jobs x l f
+
+-- a tick on the tree of a list, under a table with so many facts and jobs
+pub tick-checked-read : (facts jobs : ℕ) (l : List (Entry Condition)) → Fits facts jobs l → (r : Reading) → sound facts r ≡ true
+    → tickChecked facts jobs (treeBytes l) r ≡ accepted (tickTree r (treeOf l))
+unfolding tickChecked
+tick-checked-read facts jobs l f r h = rw (h, tree-read facts jobs l f)
+
+-- and from a table's bytes
+pub tick-read : (table : List ℕ) (t : Table) → readTable table ≡ accepted t → (l : List (Entry Condition)) → Fits (t .facts) (length (t .jobs)) l
+    → (r : Reading) → sound (t .facts) r ≡ true → tickBytes table (treeBytes l) r ≡ accepted (tickTree r (treeOf l))
+tick-read table t e l f r h = bytes-read table (treeBytes l) t e r ∙ tick-checked-read (t .facts) (length (t .jobs)) l f r h

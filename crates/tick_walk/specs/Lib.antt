@@ -1,0 +1,4 @@
+-- definitions
+pub mod Walk
+-- laws
+pub mod WalkLaws
