@@ -1,8 +1,8 @@
 // The C interface to the tick: bay_tick of include/bay.h, over the proved function of the same meaning. It takes every input.
 use reading::Reading;
-use tree::Ticked;
+use tick::Ticked;
 ghost use mathlib.Core.Path.{_≡_};
-ghost use Rattle.tree.specs.TickBytes.{answerOf};
+ghost use Rattle.tick.specs.Answers.{tickedOf};
 ghost use Rattle.bay_words.specs.Words.{words};
 ghost use Rattle.bay_tick.specs.TickWords.{statusWords, TickAnswered};
 
@@ -16,7 +16,7 @@ const BAY_RUNNING: u64 = 2;
 const BAY_UNSETTLED: u64 = 3;
 
 fn ticked_words(ticked: Ticked) -> [u64; 3]
-    ensures { λ r. ⌜ r ≡ words 3 statusWords (answerOf ticked) ⌝ }
+    ensures { λ r. ⌜ r ≡ words 3 statusWords (tickedOf ticked) ⌝ }
 {
     match ticked {
         Ticked::Success => [0, BAY_SUCCESS, 0],
@@ -37,7 +37,7 @@ pub extern "C" fn bay_tick(
 ) -> u64
     ensures { λ r. ⌜ TickAnswered (now (table .entry)) (now (tree .entry)) (record { held = held; unread = unread }) (now (answer .exit)) r ⌝ }
 {
-    let ticked = ticked_words(tree::tick(table, tree, Reading { held, unread }));
+    let ticked = ticked_words(tick::tick(table, tree, Reading { held, unread }));
     *answer = ticked;
     ticked[0]
 }

@@ -7,10 +7,10 @@ use reading::Reading;
 use refusal::Reason;
 use refusal::Refusal;
 use table::TableRead;
-use tree::Ticked;
+use tick::Ticked;
 ghost use mathlib.Core.Path.{_≡_};
 ghost use Rattle.table.specs.Read.{tableReadOf, headed};
-ghost use Rattle.tree.specs.TickBytes.{Answers};
+ghost use Rattle.tick.specs.Answers.{Answers};
 ghost use Rattle.card.specs.Card.{masksOf, Updated};
 ghost use Rattle.card_calls.specs.Calls.{tableFor, opened, outsideRead, reported};
 
@@ -90,5 +90,5 @@ pub fn tick_card(card: Card, table: &[u8], tree: &[u8]) -> Ticked
     ensures { λ r. ⌜ Answers (now (table .entry)) (now (tree .entry)) (masksOf card) r ⌝ }
 {
     let masks = card::masks_of(card);
-    tree::tick(table, tree, masks)
+    tick::tick(table, tree, masks)
 }
