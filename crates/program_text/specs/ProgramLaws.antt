@@ -152,10 +152,13 @@ module _ (table start : List ℕ) (reading : Reading) {before : Columns} {lent :
     list-shown : held after (shownIn s after) ≡ made .list
     list-shown = rw (p .writes .tables, all-shown) (written-held (made .list) before)
 
-  pub planned-text : {after : Columns} {tree : List ℕ} (r : Planned) → Plans table reading before after lent tree r → plannedText r after ≡ programText table start
-  planned-text (P.Refused x) p = text-is (plannedOf (P.Refused x)) (p .writes .answer-and-tree .answer)
-  planned-text (P.Built s) p = rw (list-shown s p) (text-is (accepted s) (answered s p))
+  -- what a plan's answer tells of the text that is due
+  pub record Told (after : Columns) (r : Planned) : Type 0 where
+    pub entries : entriesIn r ≤ capacity
+    pub is-text : plannedText r after ≡ programText table start
 
-  pub planned-entries : {after : Columns} {tree : List ℕ} (r : Planned) → Plans table reading before after lent tree r → entriesIn r ≤ capacity
-  planned-entries (P.Refused x) p = omega arith
-  planned-entries (P.Built s) p = let z = sized s p in omega (arith, z .size, z .fits, room-is)
+  pub planned-told : {after : Columns} {tree : List ℕ} (r : Planned) → Plans table reading before after lent tree r → Told after r
+  planned-told (P.Refused x) p = record { entries = omega arith; is-text = text-is (plannedOf (P.Refused x)) (p .writes .answer-and-tree .answer) }
+  planned-told (P.Built s) p =
+      let z = sized s p in
+      record { entries = omega (arith, z .size, z .fits, room-is); is-text = rw (list-shown s p) (text-is (accepted s) (answered s p)) }

@@ -55,6 +55,11 @@ abbrev pub entriesIn : Planned → ℕ
 entriesIn (P.Refused x) = 0
 entriesIn (P.Built s) = s .entries
 
+-- a list of no more than 4,096, and room for its text
+pub record Fits (planned : Planned) (out : List ℕ) : Type 0 where
+  pub entries : entriesIn planned ≤ capacity
+  pub text-room : textRoom ≤ length out
+
 -- the text of a plan's answer, whose list stands in the list tables
 abbrev pub plannedText : Planned → Columns → List ℕ
 plannedText (P.Refused x) lists = refusedText (numberOf (x .reason)) (x .place)

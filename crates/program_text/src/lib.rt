@@ -1,11 +1,8 @@
 // The text of the program of document 01, "A trailer on the hitch", made from what was read of `bay.tab` and `start.bay`.
 use planner::Planned;
 use reading::Reading;
-ghost use Prim.Native.Nat.{_≤_};
-ghost use lib.ListN.{length};
 ghost use Rattle.expander.specs.Expands.{columns};
-ghost use Rattle.program_text.specs.Program.{capacity};
-ghost use Rattle.program_text.specs.Shows.{Lent, Shows, Prints, textRoom, PlannedFrom, entriesIn, plannedText};
+ghost use Rattle.program_text.specs.Shows.{Lent, Prints, Fits, Shows, PlannedFrom, plannedText};
 
 // The bytes of a start: two masks.
 pub const START_SIZE: usize = 16;
@@ -27,7 +24,8 @@ fn start_of(start: &[u8]) -> Reading
     Reading { held, unread }
 }
 
-// The text of a plan's answer, at the front of `out`. The list of a plan that was built stands in the list tables.
+// The text of a plan's answer, whole where it fits, at the front of `out`. The list of a plan that was built stands in the list
+// tables.
 fn write_answer(
     planned: Planned,
     conditions: &[u64],
@@ -36,8 +34,9 @@ fn write_answer(
     depths: &[u16],
     out: &mut [u8],
 ) -> usize
-    requires { ⌜ (entriesIn planned ≤ capacity) × (textRoom ≤ length (now out)) ⌝ }
-    ensures { λ r. ⌜ Shows (plannedText planned (columns (now (conditions .entry)) (now (actions .entry)) (now (parents .entry)) (now (depths .entry)))) (now (out .exit)) r ⌝ }
+    ensures { λ r. ⌜ (Fits planned (now (out .entry)) → Shows
+        (plannedText planned (columns (now (conditions .entry)) (now (actions .entry)) (now (parents .entry)) (now (depths .entry))))
+        (now (out .exit)) r) ⌝ }
 {
     match planned {
         Planned::Refused(x) => {

@@ -50,7 +50,7 @@ same-length : tie.Need-same-length
 same-length c = search needs
 
 returns : tie.Need-returns
-returns c =
+returns c fits =
     let w = c .before .before .write-refused-text in
     let told = c .before .before .before .before .before in
     let n = c .before .before .before .before .number in
@@ -58,27 +58,26 @@ returns c =
     let number : numberOf (x .reason) < 2 ^ 8 = omega (arith, n .ok, n .ensures) in
     let place : x .place < 2 ^ 64 = omega (arith, told .known-told .given) in
     rw (told .before .planned .given .1)
-    (shown-whole (rw (n .ensures) at (w .ensures))
-    (omega (arith, refused-length (numberOf (x .reason)) (x .place) number place, entry-of (told .before .before .before) .pre)) (w .kept .1 .1 .0))
+    (shown-whole (rw (n .ensures) at (w .ensures)) (omega (arith, refused-length (numberOf (x .reason)) (x .place) number place, fits .text-room)) (w .kept .1 .1 .0))
 
 same-length-2 : tie.Need-same-length-2
 same-length-2 c = search needs
 
 returns-2 : tie.Need-returns-2
-returns-2 c =
+returns-2 c fits =
     let w = c .before .before .write-plan-text in
     let told = c .before .before .before .before in
     let k = told .before .before .before in
     let s = told .before .planned2 .given .0 .0 in
+    let is = told .before .planned2 .given .1 in
     let l = lists k in
     let n = shownIn s l in
-    let told-by = told .before .planned2 .given .1 in
-    let most : n ≤ capacity = omega (arith, rw told-by at (entry-of k .pre .0)) in
+    let most : n ≤ capacity = omega (arith, rw is at (fits .entries)) in
     let g = told .known-told2 .given in
     let size =
     plan-length (s .entries) (s .bytes) (entryAt (l .conditions) (l .actions) (l .parents) (l .depths)) n (s .jobs) (s .minutes)
     (omega (arith, g)) (omega (arith, g)) (omega (arith, g)) (omega (arith, g)) (omega (arith, most)) (λ i h. small k i) in
-    rw told-by (shown-whole (w .ensures) (omega (arith, entry-of k .pre .1, most, size)) (w .kept .1 .1 .1 .1 .1 .1 .1 .1 .0))
+    rw is (shown-whole (w .ensures) (omega (arith, fits .text-room, most, size)) (w .kept .1 .1 .1 .1 .1 .1 .1 .1 .0))
 
 pub write-answer-spec : {M : Type 1} → statement M
 write-answer-spec =

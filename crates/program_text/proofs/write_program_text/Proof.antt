@@ -1,11 +1,10 @@
 -- `program_text::write_program_text` meets its contract: the plan is made from the bytes that were read, and they decide on the files.
 -- Assumes nothing.
 use borrow.Author.Needs.{needs}
-use native.Mathlib.Omega.{arith}
 use mathlib.Core.Path.{refl, sym, _∙_}
 use lib.Seq.{length-take-le}
 use lib.ListN.{take}
-use Rattle.program_text.specs.ProgramLaws.{planned-text, planned-entries}
+use Rattle.program_text.specs.ProgramLaws.{planned-told}
 use Rattle.program_text.specs.FrontLaws.{text-held}
 use Rattle.program_text.proofs.write_program_text.Statement.{statement}
 use Rattle.program_text.proofs.write_program_text.Tie as tie
@@ -67,13 +66,7 @@ slice-aggregate-write-answer-4 : tie.Need-slice-aggregate-write-answer-4
 slice-aggregate-write-answer-4 c = search needs
 
 write-answer-requires : tie.Need-write-answer-requires
-write-answer-requires c κs =
-    let p = plan-of (c .before) in
-    let s = lent-of p in (
-      planned-entries (take (s .args .n) (s .args .table .now)) (take (s .args .m) (s .args .start .now)) _ (read-of p .start-of .ensures)
-          (record { conditions-lent = refl; actions-lent = refl; parents-lent = refl; depths-lent = refl; tree-lent = refl }) _ (p .plan .ensures),
-      omega arith,
-    )
+write-answer-requires c κs = search needs
 
 same-length : tie.Need-same-length
 same-length c = search needs
@@ -84,15 +77,14 @@ returns c =
     let p = plan-of (w .before .before) in
     let s = lent-of p in
     let l = s .pre in
-    let a = w .write-answer .ensures in
+    let told =
+    planned-told (take (s .args .n) (s .args .table .now)) (take (s .args .m) (s .args .start .now)) _ (read-of p .start-of .ensures)
+    (record { conditions-lent = refl; actions-lent = refl; parents-lent = refl; depths-lent = refl; tree-lent = refl }) _ (p .plan .ensures) in
+    let a = w .write-answer .ensures (record { entries = told .entries; text-room = l .text-room }) in
     record {
       within = a .within;
       counted = a .counted;
-      prints = λ tableFile startFile t u.
-          a .shows
-          ∙ planned-text (take (s .args .n) (s .args .table .now)) (take (s .args .m) (s .args .start .now)) _ (read-of p .start-of .ensures)
-          (record { conditions-lent = refl; actions-lent = refl; parents-lent = refl; depths-lent = refl; tree-lent = refl }) _ (p .plan .ensures)
-          ∙ text-held t u (l .table-room) (l .start-room);
+      prints = λ tableFile startFile t u. a .shows ∙ told .is-text ∙ text-held t u (l .table-room) (l .start-room);
     }
 
 pub write-program-text-spec : {M : Type 1} → statement M
