@@ -117,33 +117,37 @@ fn put(s: &mut [u8], at: usize, b: u8) {
     }
 }
 
-// A table of as many equal jobs, up to 129, whole and with its last JOB cut.
+// One job more than a table may have.
+const MANY: usize = table::MAX_JOBS + 1;
+
+// A table of as many equal jobs, whole and with its last JOB cut.
 fn show_many(count: usize) {
     let mut out = [0u8; 4096];
-    if 129 < count {
+    if MANY < count {
         return;
     }
     put(&mut out, 0, commands::FACTS);
-    put(&mut out, 1, 64);
-    let mut at: usize = 2;
+    put(&mut out, commands::OPERANDS_AT, 64);
+    let mut at: usize = commands::FACTS_SIZE;
     let mut i: usize = 0;
     while i < count {
         put(&mut out, at, commands::JOB);
-        at += 27;
+        at += commands::JOB_SIZE;
         i += 1;
     }
     show_part(&out, at);
     show_part(&out, at - 1);
     put(&mut out, at, commands::GOAL);
-    put(&mut out, at + 9, commands::END_OF_TABLE);
-    show_part(&out, at + 10);
-    show_part(&out, at + 11);
+    put(&mut out, at + commands::GOAL_SIZE, commands::END_OF_TABLE);
+    let end = at + commands::GOAL_SIZE + commands::END_OF_TABLE_SIZE;
+    show_part(&out, end);
+    show_part(&out, end + 1);
 }
 
 // The command at an offset replaced by each command byte in turn.
 fn show_commands(s: &mut [u8], at: usize) {
     let mut k: usize = 0;
-    while k < 9 {
+    while k < commands::COUNT {
         let c = commands::COMMANDS[k];
         put(s, at, c.byte);
         show(s);
@@ -151,63 +155,127 @@ fn show_commands(s: &mut [u8], at: usize) {
     }
 }
 
-fn main() {
-    let needs = [0x01u64, 0x02, 0x01, 0x02, 0x0c];
-    let adds = [0x02u64, 0x01, 0x04, 0x08, 0x10];
-    let deletes = [0x01u64, 0x02, 0x00, 0x00, 0x00];
-    let seconds = [300u16, 240, 600, 600, 150];
+// The trailer's jobs.
+const NEEDS: [u64; 5] = [0x01, 0x02, 0x01, 0x02, 0x0c];
+
+const ADDS: [u64; 5] = [0x02, 0x01, 0x04, 0x08, 0x10];
+
+const DELETES: [u64; 5] = [0x01, 0x02, 0x00, 0x00, 0x00];
+
+const SECONDS: [u16; 5] = [300, 240, 600, 600, 150];
+
+// What writing a table of five jobs answers.
+fn show_writing(
+    facts: usize,
+    adds: [u64; 5],
+    deletes: [u64; 5],
+    seconds: [u16; 5],
+    goal: u64,
+    out: &mut [u8],
+) {
+    let needs = NEEDS;
+    show_written(table_writer::write_table(facts, &needs, &adds, &deletes, &seconds, goal, out));
+}
+
+// What writing the trailer's table with so many facts answers.
+fn show_facts(facts: usize, out: &mut [u8]) {
+    show_writing(facts, ADDS, DELETES, SECONDS, 0x10, out);
+}
+
+// The trailer's table, whole, cut and changed.
+fn show_trailer(out: &mut [u8]) {
+    show_facts(5, out);
+    show(out);
+    show_jobs(out, 6);
+    show_cuts(out);
+    show_changes(out, 0x80);
+    show_changes(out, 0x01);
+    show_changes(out, 0x3F);
+}
+
+// The trailer's FACTS, second JOB, GOAL and END replaced, one at a time.
+fn show_replaced(out: &mut [u8]) {
+    show_commands(out, 0);
+    put(out, 0, commands::FACTS);
+    show_commands(out, 29);
+    put(out, 29, commands::JOB);
+    show_commands(out, 137);
+    put(out, 137, commands::GOAL);
+    show_commands(out, 146);
+    put(out, 146, commands::END_OF_TABLE);
+    show(out);
+}
+
+// Tables that the writer refuses, and what they leave of the lent bytes.
+fn show_refused(out: &mut [u8]) {
+    show_facts(0, out);
+    show_facts(64, out);
+    show_facts(65, out);
+    show_facts(4, out);
+    show_writing(5, ADDS, DELETES, SECONDS, 0x20, out);
+    show_writing(5, ADDS, NEEDS, SECONDS, 0x10, out);
+    show_writing(5, NEEDS, DELETES, SECONDS, 0x10, out);
+}
+
+// Columns of different length, and a slice that is one byte too short.
+fn show_misfits(out: &mut [u8]) {
+    let needs = NEEDS;
     let four = [0x02u64, 0x01, 0x04, 0x08];
-    let longest = [5_400u16, 0, 5_400, 0, 5_400];
-    let longer = [5_400u16, 0, 5_401, 0, 5_400];
-    // Deletes that overlap in the job that is longer, and in the one after it.
-    let overlap = [0x01u64, 0x02, 0x04, 0x00, 0x00];
-    let later = [0x01u64, 0x02, 0x00, 0x08, 0x00];
+    let deletes = DELETES;
+    let seconds = SECONDS;
+    show_written(table_writer::write_table(5, &needs, &four, &deletes, &seconds, 0x10, out));
     let mut short = [0u8; 146];
+    show_facts(5, &mut short);
+    show(out);
+}
+
+const LONGEST: [u16; 5] = [5_400, 0, 5_400, 0, 5_400];
+
+const LONGER: [u16; 5] = [5_400, 0, 5_401, 0, 5_400];
+
+// Deletes that overlap in the job that is longer, and in the one after it.
+const OVERLAP: [u64; 5] = [0x01, 0x02, 0x04, 0x00, 0x00];
+
+const LATER: [u64; 5] = [0x01, 0x02, 0x00, 0x08, 0x00];
+
+// Jobs of the most seconds.
+fn show_longest(out: &mut [u8]) {
+    show_writing(5, ADDS, DELETES, LONGEST, 0x10, out);
+    show(out);
+    show_jobs(out, 5);
+}
+
+// A longer job, alone and beside other faults.
+fn show_longer(out: &mut [u8]) {
+    show_writing(5, ADDS, DELETES, LONGER, 0x10, out);
+    show_writing(5, ADDS, OVERLAP, LONGER, 0x10, out);
+    show_writing(5, ADDS, LATER, LONGER, 0x10, out);
+    show_writing(5, ADDS, DELETES, LONGER, 0x20, out);
+    show_writing(2, ADDS, DELETES, LONGER, 0x10, out);
+    show(out);
+}
+
+// The low byte of job 2's seconds makes them 5,401: alone, with its operands cut, and with faults of later commands.
+fn show_longer_read(out: &mut [u8]) {
+    put(out, 81, 0x19);
+    show(out);
+    show_part(out, 82);
+    show_part(out, 146);
+    put(out, 137, commands::JOB);
+    show(out);
+}
+
+fn main() {
     let mut out = [0u8; 147];
-    show_written(table_writer::write_table(5, &needs, &adds, &deletes, &seconds, 0x10, &mut out));
-    show(&out);
-    show_jobs(&out, 6);
-    show_cuts(&out);
-    show_changes(&mut out, 0x80);
-    show_changes(&mut out, 0x01);
-    show_changes(&mut out, 0x3F);
+    show_trailer(&mut out);
     show_many(0);
     show_many(1);
     show_many(128);
     show_many(129);
-    show_commands(&mut out, 0);
-    put(&mut out, 0, commands::FACTS);
-    show_commands(&mut out, 29);
-    put(&mut out, 29, commands::JOB);
-    show_commands(&mut out, 137);
-    put(&mut out, 137, commands::GOAL);
-    show_commands(&mut out, 146);
-    put(&mut out, 146, commands::END_OF_TABLE);
-    show(&out);
-    show_written(table_writer::write_table(0, &needs, &adds, &deletes, &seconds, 0x10, &mut out));
-    show_written(table_writer::write_table(64, &needs, &adds, &deletes, &seconds, 0x10, &mut out));
-    show_written(table_writer::write_table(65, &needs, &adds, &deletes, &seconds, 0x10, &mut out));
-    show_written(table_writer::write_table(4, &needs, &adds, &deletes, &seconds, 0x10, &mut out));
-    show_written(table_writer::write_table(5, &needs, &adds, &deletes, &seconds, 0x20, &mut out));
-    show_written(table_writer::write_table(5, &needs, &adds, &needs, &seconds, 0x10, &mut out));
-    show_written(table_writer::write_table(5, &needs, &needs, &deletes, &seconds, 0x10, &mut out));
-    show_written(table_writer::write_table(5, &needs, &four, &deletes, &seconds, 0x10, &mut out));
-    show_written(table_writer::write_table(5, &needs, &adds, &deletes, &seconds, 0x10, &mut short));
-    show(&out);
-    show_written(table_writer::write_table(5, &needs, &adds, &deletes, &longest, 0x10, &mut out));
-    show(&out);
-    show_jobs(&out, 5);
-    show_written(table_writer::write_table(5, &needs, &adds, &deletes, &longer, 0x10, &mut out));
-    show_written(table_writer::write_table(5, &needs, &adds, &overlap, &longer, 0x10, &mut out));
-    show_written(table_writer::write_table(5, &needs, &adds, &later, &longer, 0x10, &mut out));
-    show_written(table_writer::write_table(5, &needs, &adds, &deletes, &longer, 0x20, &mut out));
-    show_written(table_writer::write_table(2, &needs, &adds, &deletes, &longer, 0x10, &mut out));
-    show(&out);
-    // The low byte of job 2's seconds makes them 5,401: alone, with its operands cut, and with faults of later commands.
-    put(&mut out, 81, 0x19);
-    show(&out);
-    show_part(&out, 82);
-    show_part(&out, 146);
-    put(&mut out, 137, commands::JOB);
-    show(&out);
+    show_replaced(&mut out);
+    show_refused(&mut out);
+    show_misfits(&mut out);
+    show_longest(&mut out);
+    show_longer(&mut out);
+    show_longer_read(&mut out);
 }

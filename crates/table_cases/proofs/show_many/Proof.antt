@@ -4,11 +4,12 @@ use borrow.Author.Needs.{needs}
 use mathlib.Core.Path.{_≡_}
 use Prim.Native.Nat.{_+_, _*_, _-_, _≤_}
 use lib.ListN.{length}
+use Rattle.commands.specs.Commands.{FACTS-SIZE, JOB-SIZE}
 use Rattle.table_cases.proofs.show_many.Statement.{statement}
 use Rattle.table_cases.proofs.show_many.Tie as tie
 
 abbrev Inv-loop : tie.InvT-loop
-Inv-loop count out₀ at₀ i₀ out at i = (i ≤ count) × (at ≡ 2 + 27 * i) × (length out ≡ 4096)
+Inv-loop count out₀ at₀ i₀ out at i = (i ≤ count) × (at ≡ FACTS-SIZE + JOB-SIZE * i) × (length out ≡ 4096)
 
 abbrev μ-loop : tie.MeasureT-loop
 μ-loop count out₀ at₀ i₀ out at i = count - i
@@ -79,11 +80,14 @@ add-put c = search needs
 put-requires-5 : tie.Need-put-requires-5 Inv-loop μ-loop
 put-requires-5 c κs = search needs
 
+add-end : tie.Need-add-end Inv-loop μ-loop
+add-end c = search needs
+
+add-end-2 : tie.Need-add-end-2 Inv-loop μ-loop
+add-end-2 c = search needs
+
 slice-aggregate-show-part-3 : tie.Need-slice-aggregate-show-part-3 Inv-loop μ-loop
 slice-aggregate-show-part-3 c = search needs
-
-add-show-part : tie.Need-add-show-part Inv-loop μ-loop
-add-show-part c = search needs
 
 show-part-requires-3 : tie.Need-show-part-requires-3 Inv-loop μ-loop
 show-part-requires-3 c κs = search needs
@@ -91,8 +95,8 @@ show-part-requires-3 c κs = search needs
 slice-aggregate-show-part-4 : tie.Need-slice-aggregate-show-part-4 Inv-loop μ-loop
 slice-aggregate-show-part-4 c = search needs
 
-add-show-part-2 : tie.Need-add-show-part-2 Inv-loop μ-loop
-add-show-part-2 c = search needs
+add-show-part : tie.Need-add-show-part Inv-loop μ-loop
+add-show-part c = search needs
 
 show-part-requires-4 : tie.Need-show-part-requires-4 Inv-loop μ-loop
 show-part-requires-4 c κs = search needs
@@ -128,10 +132,11 @@ show-many-spec =
     slice-aggregate-put-5
     add-put
     put-requires-5
+    add-end
+    add-end-2
     slice-aggregate-show-part-3
-    add-show-part
     show-part-requires-3
     slice-aggregate-show-part-4
-    add-show-part-2
+    add-show-part
     show-part-requires-4
     returns-2)
