@@ -1,67 +1,64 @@
--- Document 01, "The marked cases, P1 to P10": one table of what each asks and what it gives, computed together from the definitions that
--- the contracts of `plan` and `tick` cite. P7 to P10 are ticks of the very bytes that P1's plan writes.
+-- Document 01, "The marked cases, P1 to P10", and document 02's, W2: one table of what each asks and what it gives. P7 to P10 are ticks of the
+-- very bytes that P1's plan writes.
+-- Definitions only; Computed.antt computes them from the definitions that the contracts of `plan`, `plan_shift` and `tick` cite.
 use Prim.Native.Nat.{ℕ}
-use mathlib.Core.Path.{_≡_, refl}
-use mathlib.Core.List.{List, [], _∷_, map}
+use mathlib.Core.List.{List, [], _∷_}
 use lib.ListN.{take}
-use Rattle.masks.specs.Sets.{subset, intersects, union, difference, within}
-use Rattle.masks.specs.Effects.{applied, relevant, regressed}
 use Rattle.refusal.specs.Checked.{Checked, accepted, refused}
-use Rattle.commands.specs.Commands.{widthOf, commandAt}
-use Rattle.numbers.specs.Numbers.{fromBytes, toBytes, numberAt}
 use Rattle.reading.specs.declared.Reading.{Reading}
-use Rattle.reading.specs.Reading.{sound}
-use Rattle.job.specs.Job.{jobAt}
-use Rattle.job.specs.Validation.{validatedJob}
-use Rattle.table.specs.Read as Table
-use Rattle.marked_cases.specs.Trailer.{trailerBytes}
+use Rattle.conditions.specs.Condition.{Condition}
+use Rattle.table.specs.Table.{Table, tableBytes}
 use Rattle.tree.specs.declared.Status.{Status}
 use Rattle.tree.specs.declared.Status.the-variants.{Failure, Running, Unsettled}
-use Rattle.tree.specs.ReadTree as Tree
-use Rattle.tree.specs.Tick.{tickBy, judged}
-use Rattle.tree.specs.TickBytes.{answered, tickChecked, tickBytes}
-use Rattle.planning.specs.Expansion.{Entry, listed, expandEntry, expandFrom, expand}
-use Rattle.minutes.specs.Minutes.{nearest}
-use Rattle.flat.specs.TreeBytes.{conditionBytes, laterBytes, laterEntries, treeBytes}
+use Rattle.tree.specs.TickBytes.{answered, tickBytes}
+use Rattle.planning.specs.Expansion.{Entry}
+use Rattle.builder.specs.declared.Size.{Size}
+use Rattle.builder.specs.Plan.{Plan}
 use Rattle.planner.specs.declared.Summary.{Summary}
-use Rattle.planner.specs.Plan.{laidFor, laidFrom, laid}
+use Rattle.planner.specs.Plan.{planFor}
+use Rattle.shift_planner.specs.Shift.{planShift}
+use Rattle.marked_cases.specs.Trailer.{job, trailerBytes}
 
-abbrev entry : ℕ → ℕ → ℕ → ℕ → Entry ℕ
+abbrev entry : ℕ → ℕ → ℕ → ℕ → Entry Condition
 entry c a p d = record { condition = c; action = a; parent = p; depth = d }
 
 abbrev pub reading : ℕ → ℕ → Reading
 reading held unread = record { held = held; unread = unread }
 
-abbrev planned : ℕ → ℕ → ℕ → ℕ → Checked Summary
-planned entries bytes jobs minutes = accepted (record { entries = entries; bytes = bytes; jobs = jobs; minutes = minutes })
+abbrev summary : ℕ → ℕ → ℕ → ℕ → Checked Summary
+summary entries bytes jobs minutes = accepted (record { entries = entries; bytes = bytes; jobs = jobs; minutes = minutes })
+
+abbrev size : ℕ → ℕ → Checked Size
+size entries bytes = accepted (record { entries = entries; bytes = bytes })
 
 -- `bayplan` "lends lists of 4,096 and a tree of 65,535 bytes"
-abbrev lent : ℕ
-lent = 65535
+abbrev pub all : ℕ
+all = 65535
 
--- the tree that P1's plan writes
-abbrev pub p1Tree : List ℕ
-p1Tree = laid trailerBytes (reading 0x02 0) 4096 lent .tree
+abbrev pub p1Plan : Plan Summary
+p1Plan = planFor trailerBytes (reading 0x02 0) 4096 all
 
 -- ---- what a case can ask
 
 pub data Told : Type 0 where
-  -- the answer of a plan
-  plan : Checked Summary → Told
-  -- its list
-  list : List (Entry ℕ) → Told
-  -- how many bytes its tree has, and how a tick of a tree answers
+  -- the answer of a plan, and the list that it stores
+  plan : Checked Summary → List (Entry Condition) → Told
+  shift : Checked Size → List (Entry Condition) → Told
+  -- the tree that it writes
+  tree : List ℕ → Told
+  -- how a tick of a tree answers
   tick : Checked Status → Told
 
-abbrev planFor : ℕ → ℕ → Told
-planFor held capacity = plan (laid trailerBytes (reading held 0) capacity lent .answer)
+-- from a state that is wholly read, with room for so many entries and so many bytes of a tree
+abbrev planOf : List ℕ → ℕ → ℕ → ℕ → Told
+planOf table held capacity room = let P = planFor table (reading held 0) capacity room in plan (P .answer) (P .list)
 
-abbrev listFor : ℕ → ℕ → Told
-listFor held capacity = list (laid trailerBytes (reading held 0) capacity lent .list)
+abbrev shiftOf : List ℕ → ℕ → ℕ → Told
+shiftOf table capacity room = let P = planShift table capacity room in shift (P .answer) (P .list)
 
 -- on P1's tree
 abbrev tickAt : ℕ → ℕ → Told
-tickAt held unread = tick (answered (tickBytes trailerBytes p1Tree (reading held unread)))
+tickAt held unread = tick (answered (tickBytes trailerBytes (p1Plan .tree) (reading held unread)))
 
 -- ---- the table
 
@@ -74,29 +71,34 @@ abbrev _is_ : Told → Told → Case
 a is b = record { found = a; expected = b }
 
 -- the list of P1 and P2: the plan for each start is a beginning of it
-abbrev pub whole : List (Entry ℕ)
+abbrev pub whole : List (Entry Condition)
 whole =
     entry 0x10 255 0 0 ∷ entry 0x0c 4 0 1 ∷ entry 0x09 2 1 2 ∷ entry 0x06 3 1 2 ∷ entry 0x0a 1 2 3 ∷ entry 0x03 3 2 3 ∷ entry 0x05 0 3 3
     ∷ entry 0x02 3 4 4 ∷ entry 0x01 2 6 4 ∷ []
 
-abbrev pub cases : List Case
-cases =
+abbrev pub plans : List Case
+plans =
     -- P1 the list that `bayplan` prints, with `plan 8 111` and, since document 02's W1, `way 4 26`
-    (planFor 0x02 4096 is plan (planned 8 111 4 26))
-    ∷ (listFor 0x02 4096 is list (take 8 whole))
+    (planOf trailerBytes 0x02 4096 all is plan (summary 8 111 4 26) (take 8 whole))
     -- P2 start 01: 9 entries, 4 jobs
-    ∷ (planFor 0x01 4096 is plan (planned 9 125 4 28))
-    ∷ (listFor 0x01 4096 is list whole)
+    ∷ (planOf trailerBytes 0x01 4096 all is plan (summary 9 125 4 28) whole)
     -- P3 start 08, capacity 9: 11, place 9
-    ∷ (planFor 0x08 9 is plan (refused 11 9))
+    ∷ (planOf trailerBytes 0x08 9 all is plan (refused 11 9) whole)
     -- P4 the same, capacity 8: 10, place 8
-    ∷ (planFor 0x08 8 is plan (refused 10 8))
+    ∷ (planOf trailerBytes 0x08 8 all is plan (refused 10 8) (take 8 whole))
     -- P5 start 10: one entry, 13 tree bytes
-    ∷ (planFor 0x10 4096 is plan (planned 1 13 0 0))
+    ∷ (planOf trailerBytes 0x10 4096 all is plan (summary 1 13 0 0) (take 1 whole))
     -- P6 capacity 0: 10, place 0
-    ∷ (planFor 0x02 0 is plan (refused 10 0))
+    ∷ (planOf trailerBytes 0x02 0 all is plan (refused 10 0) [])
+    -- P1's tree has room to the last byte, or none of it is written
+    ∷ (planOf trailerBytes 0x02 8 111 is plan (summary 8 111 4 26) (take 8 whole))
+    ∷ (planOf trailerBytes 0x02 8 110 is plan (refused 12 8) (take 8 whole))
+    ∷ []
+
+abbrev pub ticks : List Case
+ticks =
     -- P7 held 02 unread 01 is Unsettled 01
-    ∷ (tickAt 0x02 0x01 is tick (accepted (Unsettled 0x01)))
+    (tickAt 0x02 0x01 is tick (accepted (Unsettled 0x01)))
     -- P8 held 02 unread 08 is Unsettled 08
     ∷ (tickAt 0x02 0x08 is tick (accepted (Unsettled 0x08)))
     -- P9 held 03 names job 3
@@ -105,6 +107,28 @@ cases =
     ∷ (tickAt 0x08 0x00 is tick (accepted Failure))
     ∷ []
 
-pub marked : map (λ c. c .found) cases ≡ map (λ c. c .expected) cases
-unfolding laid laidFrom laidFor expand expandFrom expandEntry listed applied relevant regressed subset intersects union difference within sound nearest conditionBytes laterBytes laterEntries treeBytes widthOf commandAt fromBytes toBytes numberAt Table.readTable Table.readJobs Table.readGoal Table.readEnd Table.due jobAt validatedJob tickBytes tickChecked tickBy judged Tree.wholeAt Tree.operandsOf Tree.nodeAt Tree.readRow Tree.readNode Tree.readTree Tree.readEnd
-marked = refl
+-- W2: the plan for the whole shift lists what P2's plan lists, since start 01 meets its last entry alone; one entry less of room is 10, one byte
+-- less is 12; a table that is cut is refused as every reader of it refuses it
+abbrev pub shifts : List Case
+shifts =
+    (shiftOf trailerBytes 4096 all is shift (size 9 125) whole)
+    ∷ (shiftOf trailerBytes 9 125 is shift (size 9 125) whole)
+    ∷ (shiftOf trailerBytes 9 124 is shift (refused 12 9) whole)
+    ∷ (shiftOf trailerBytes 8 125 is shift (refused 10 8) (take 8 whole))
+    ∷ (shiftOf trailerBytes 0 0 is shift (refused 10 0) [])
+    ∷ (shiftOf (take 146 trailerBytes) 4096 all is shift (refused 1 146) [])
+    ∷ (tree (planShift trailerBytes 4096 all .tree) is tree (planFor trailerBytes (reading 0x01 0) 4096 all .tree))
+    ∷ []
+
+-- ---- a condition is listed "unless some listed condition is a subset of it"
+
+-- three jobs that add the goal: the first and the third need more facts than the second, one listed before it, one after
+abbrev wider : Table
+wider = record { facts = 4; jobs = job 0x06 0x01 0x00 60 ∷ job 0x02 0x01 0x00 60 ∷ job 0x0a 0x01 0x00 60 ∷ []; goal = 0x01 }
+
+-- 06 stands, since it is no superset of a condition listed before it; 0a is a strict superset of 02, and is not listed
+abbrev pub dropped : List Case
+dropped =
+    (planOf (tableBytes wider) 0x00 9 all is plan (refused 11 3) (entry 0x01 255 0 0 ∷ entry 0x06 0 0 1 ∷ entry 0x02 1 0 1 ∷ []))
+    ∷ (planOf (tableBytes wider) 0x0a 9 all is plan (summary 3 41 1 1) (entry 0x01 255 0 0 ∷ entry 0x06 0 0 1 ∷ entry 0x02 1 0 1 ∷ []))
+    ∷ []

@@ -1,45 +1,26 @@
--- The workshop's checklist, on the trailer's table: P1's run and P5's, and what each of the 243 readings of five facts gives on P1's tree.
--- The theorems behind it hold of every table (`planner`, Promise.antt); here they are seen on this one, by computation.
+-- The workshop's checklist, on the trailer's table: what each of the 243 readings of five facts gives on P1's tree.
+-- The theorems behind it hold of every table (`planner`, Promise.antt); here they are seen on this one.
+-- Definitions only; Computed.antt computes them.
 use Prim.Native.Nat.{ℕ, zero, suc, _+_, _*_}
-use mathlib.Core.Path.{_≡_, refl}
 use mathlib.Core.Bool.{Bool, true, false, not, _&&_, _||_}
 use mathlib.Core.List.{List, [], _∷_, _++_, map}
 use lib.Dec.{eqb}
-use lib.ListN.{length}
-use Rattle.masks.specs.Sets.{subset, intersects, union, difference, within}
-use Rattle.masks.specs.Effects.{applied, relevant, regressed}
+use Rattle.masks.specs.Sets.{subset, intersects, union}
 use Rattle.refusal.specs.Checked.{Checked, accepted, refused}
-use Rattle.commands.specs.Commands.{widthOf, commandAt}
-use Rattle.numbers.specs.Numbers.{fromBytes, toBytes, numberAt}
 use Rattle.reading.specs.declared.Reading.{Reading}
-use Rattle.reading.specs.Reading.{sound, state}
-use Rattle.job.specs.Job.{jobAt}
-use Rattle.job.specs.Validation.{validatedJob}
-use Rattle.table.specs.Read as Table
-use Rattle.marked_cases.specs.Trailer.{trailer, trailerBytes}
+use Rattle.reading.specs.Reading.{state}
+use Rattle.conditions.specs.Condition.{Condition}
+use Rattle.tree.specs.declared.Leaf.the-variants.{Condition as Asks}
 use Rattle.tree.specs.declared.Status.{Status}
 use Rattle.tree.specs.declared.Status.the-variants.{Success, Failure, Running, Unsettled}
 use Rattle.tree.specs.Tree as Shape
-use Rattle.tree.specs.ReadTree as Tree
-use Rattle.tree.specs.Tick.{Verdict, tickBy, tickTree, judged}
-use Rattle.tree.specs.TickBytes.{isSettled, tickChecked, tickBytes}
-use Rattle.planning.specs.Sequence.{Run}
-use Rattle.planning.specs.Expansion.{Entry, listed, expandEntry, expandFrom, expand}
-use Rattle.minutes.specs.Minutes.{nearest}
-use Rattle.flat.specs.TreeBytes.{conditionBytes, laterBytes, laterEntries, treeBytes}
-use Rattle.planner.specs.Plan.{jobOf, tableDomain, laidFor, laidFrom, laid}
-use Rattle.planner.specs.Promise.{tickOn}
-use Rattle.marked_cases.specs.Cases.{reading, p1Tree}
-
--- ---- "From P1's start the run is 3, 1, 2, 4, then Success; from P5's it has no job."
-
-pub p1-run : Run (tableDomain trailer) (tickOn trailerBytes p1Tree) 0x02 (3 ∷ 1 ∷ 2 ∷ 4 ∷ [])
-unfolding laid laidFrom laidFor expand expandFrom expandEntry listed applied relevant regressed subset intersects union difference within sound nearest conditionBytes laterBytes laterEntries treeBytes widthOf commandAt fromBytes toBytes numberAt Table.readTable Table.readJobs Table.readGoal Table.readEnd Table.due jobAt validatedJob tickBytes tickChecked tickBy judged Tree.wholeAt Tree.operandsOf Tree.nodeAt Tree.readRow Tree.readNode Tree.readTree Tree.readEnd
-p1-run = (refl, tt, (refl, tt, (refl, tt, (refl, tt, refl))))
-
-pub p5-run : Run (tableDomain trailer) (tickOn trailerBytes (laid trailerBytes (reading 0x10 0) 4096 65535 .tree)) 0x10 []
-unfolding laid laidFrom laidFor expand expandFrom expandEntry listed applied relevant regressed subset intersects union difference within sound nearest conditionBytes laterBytes laterEntries treeBytes widthOf commandAt fromBytes toBytes numberAt Table.readTable Table.readJobs Table.readGoal Table.readEnd Table.due jobAt validatedJob tickBytes tickChecked tickBy judged Tree.wholeAt Tree.operandsOf Tree.nodeAt Tree.readRow Tree.readNode Tree.readTree Tree.readEnd
-p5-run = refl
+use Rattle.tree.specs.ReadTree.{readTree}
+use Rattle.tree.specs.Tick.{Verdict, tickTree}
+use Rattle.tree.specs.TickBytes.{isSettled}
+use Rattle.planning.specs.Expansion.{Entry}
+use Rattle.builder.specs.Plan.{jobOf}
+use Rattle.marked_cases.specs.Trailer.{trailer}
+use Rattle.marked_cases.specs.Cases.{reading, p1Plan}
 
 -- ---- the readings, and the ways of filling in their unread facts
 
@@ -96,7 +77,7 @@ sealed Failure r = true
 sealed (Unsettled mask) r = true
 
 -- "Vehicle sent away as impossible?" Where all facts are read, the tree fails exactly where no listed condition is met.
-abbrev anyMet : ℕ → List (Entry ℕ) → Bool
+abbrev anyMet : ℕ → List (Entry Condition) → Bool
 anyMet s [] = false
 anyMet s (x ∷ l) = subset (x .condition) s || anyMet s l
 
@@ -106,22 +87,18 @@ isFailure Failure = true
 isFailure (Running job) = false
 isFailure (Unsettled mask) = false
 
-abbrev failsRightly : List (Entry ℕ) → Status → Reading → Bool
+abbrev failsRightly : List (Entry Condition) → Status → Reading → Bool
 failsRightly list a r = not (eqb (r .unread) 0) || (isFailure a && not (anyMet (r .held) list)) || (not (isFailure a) && anyMet (r .held) list)
 
-abbrev keeps : Shape.Tree → List (Entry ℕ) → Reading → Bool
+abbrev keeps : Shape.Tree → List (Entry Condition) → Reading → Bool
 keeps tree list r =
     stands tree r && (needsHeld (tickTree r tree .answer) r && (sealed (tickTree r tree .answer) r && failsRightly list (tickTree r tree .answer) r))
 
 -- P1's tree, read from its bytes
 abbrev treeIn : Checked Shape.Tree → Shape.Tree
 treeIn (accepted t) = t
-treeIn (refused n p) = Shape.condition 0 0
+treeIn (refused n p) = Shape.leaf (Asks 0) 0
 
-pub all-readings : length (readings 5) ≡ 243
-unfolding readingsFrom
-all-readings = refl
-
-pub checklist : every (keeps (treeIn (Tree.readTree p1Tree 5 5)) (laid trailerBytes (reading 0x02 0) 4096 65535 .list)) (readings 5) ≡ true
-unfolding readingsFrom laid laidFrom laidFor expand expandFrom expandEntry listed applied relevant regressed subset intersects union difference within sound nearest conditionBytes laterBytes laterEntries treeBytes widthOf commandAt fromBytes toBytes numberAt Table.readTable Table.readJobs Table.readGoal Table.readEnd Table.due jobAt validatedJob tickBytes tickChecked tickBy judged Tree.wholeAt Tree.operandsOf Tree.nodeAt Tree.readRow Tree.readNode Tree.readTree Tree.readEnd
-checklist = refl
+-- all 243 keep it
+abbrev pub checklist : Bool
+checklist = every (keeps (treeIn (readTree (p1Plan .tree) 5 5)) (p1Plan .list)) (readings 5)

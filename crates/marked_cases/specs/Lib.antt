@@ -1,4 +1,7 @@
+-- definitions
 pub mod Trailer
 pub mod Cases
 pub mod Checklist
-pub mod Shift
+pub mod Printed
+-- computations
+pub mod Computed

@@ -1,26 +1,13 @@
--- What the program prints for document 01's files, and for some that it refuses, by computation.
--- Assumes nothing.
-use mathlib.Core.Path.{_≡_, refl}
-use mathlib.Core.List.{List, [], _∷_, _++_, map}
+-- What the program prints for document 01's files, and for some that it refuses.
+-- Definitions only; Computed.antt computes them.
+use mathlib.Core.List.{List, [], _∷_, _++_}
 use Prim.Native.Nat.{ℕ}
 use Prim.Native.String.{String}
 use lib.ListN.{take}
-use Rattle.masks.specs.Sets.{subset, intersects, union, difference, within}
-use Rattle.masks.specs.Effects.{relevant, regressed}
-use Rattle.commands.specs.Commands.{widthOf, commandAt}
-use Rattle.numbers.specs.Numbers.{fromBytes, toBytes, numberAt}
-use Rattle.reading.specs.Reading.{sound}
-use Rattle.job.specs.Job.{jobAt}
-use Rattle.job.specs.Validation.{validatedJob}
-use Rattle.table.specs.Read.{due, readEnd, readGoal, readJobs, readTable}
+use Rattle.numbers.specs.Numbers.{toBytes}
+use Rattle.text_fields.specs.Fields.{ascii}
+use Rattle.program_text.specs.Program.{programText}
 use Rattle.marked_cases.specs.Trailer.{trailerBytes}
-use Rattle.planning.specs.Expansion.{listed, expandEntry, expandFrom, expand}
-use Rattle.minutes.specs.Minutes.{nearest}
-use Rattle.flat.specs.TreeBytes.{conditionBytes, laterBytes, laterEntries, treeBytes}
-use Rattle.planner.specs.Plan.{laidFor, laidFrom, laid}
-use Rattle.text_fields.specs.Fields.{ascii, digits, placesIn, places}
-use Rattle.plan_text.specs.Text.{entriesText, planText, refusedText}
-use Rattle.program_text.specs.Program.{laidFiles, programText}
 
 abbrev lines : List String → List ℕ
 lines [] = []
@@ -29,19 +16,20 @@ lines (s ∷ rest) = ascii s ++ (ascii "\n" ++ lines rest)
 abbrev startBytes : ℕ → ℕ → List ℕ
 startBytes held unread = toBytes 8 held ++ toBytes 8 unread
 
--- P1; P3 with lists of 4,096; a start with an unread fact; starts of 15 and 17 bytes; a table with a byte more; one that is cut, with no start
--- at all
-pub printed : map (λ (f : List ℕ × List ℕ). programText (f .0) (f .1))
-    ((trailerBytes, startBytes 0x02 0)
-    ∷ (trailerBytes, startBytes 0x08 0)
-    ∷ (trailerBytes, startBytes 0x02 0x08)
-    ∷ (trailerBytes, take 15 (startBytes 0x02 0))
-    ∷ (trailerBytes, startBytes 0x02 0 ++ (0x00 ∷ []))
-    ∷ (trailerBytes ++ (0x00 ∷ []), startBytes 0x02 0)
-    ∷ (take 146 trailerBytes, [])
-    ∷ [])
-    ≡ lines
-    ("plan 8 111"
+pub record Print : Type 0 where
+  pub found : List ℕ
+  pub expected : List ℕ
+
+-- `bay.tab`, `start.bay` and what is printed
+infix 4 _with_prints_
+abbrev _with_prints_ : List ℕ → List ℕ → List String → Print
+table with start prints text = record { found = programText table start; expected = lines text }
+
+abbrev pub prints : List Print
+prints =
+    -- P1
+    (trailerBytes with startBytes 0x02 0 prints
+    "plan 8 111"
     ∷ "0 0000000000000010 - 0 0"
     ∷ "1 000000000000000c 4 0 1"
     ∷ "2 0000000000000009 2 1 2"
@@ -52,12 +40,14 @@ pub printed : map (λ (f : List ℕ × List ℕ). programText (f .0) (f .1))
     ∷ "7 0000000000000002 3 4 4"
     ∷ "way 4 26"
     ∷ [])
-    ∷ lines ("refused 11 9" ∷ [])
-    ∷ lines ("refused 9 0" ∷ [])
-    ∷ lines ("refused 8 0" ∷ [])
-    ∷ lines ("refused 8 0" ∷ [])
-    ∷ lines ("refused 7 147" ∷ [])
-    ∷ lines ("refused 1 146" ∷ [])
+    -- P3 with lists of 4,096
+    ∷ (trailerBytes with startBytes 0x08 0 prints "refused 11 9" ∷ [])
+    -- a start with an unread fact
+    ∷ (trailerBytes with startBytes 0x02 0x08 prints "refused 9 0" ∷ [])
+    -- starts of 15 and 17 bytes
+    ∷ (trailerBytes with take 15 (startBytes 0x02 0) prints "refused 8 0" ∷ [])
+    ∷ (trailerBytes with startBytes 0x02 0 ++ (0x00 ∷ []) prints "refused 8 0" ∷ [])
+    -- a table with a byte more; one that is cut, with no start at all
+    ∷ (trailerBytes ++ (0x00 ∷ []) with startBytes 0x02 0 prints "refused 7 147" ∷ [])
+    ∷ (take 146 trailerBytes with [] prints "refused 1 146" ∷ [])
     ∷ []
-unfolding programText laidFiles laid laidFrom laidFor sound expand expandFrom expandEntry listed subset intersects union difference within relevant regressed nearest treeBytes laterEntries laterBytes conditionBytes readTable readJobs readGoal readEnd due validatedJob jobAt commandAt widthOf numberAt fromBytes toBytes planText refusedText entriesText digits placesIn places
-printed = refl
