@@ -2,10 +2,8 @@
 // prints the plan or the stop.
 use libc::STDOUT_FILENO;
 
-const MAX_JOBS: usize = 128;
-
 // FACTS and a JOB more than a table may have: no stop of a table lies further on, so the rest of a longer file is not read.
-const TABLE_BYTES: usize = commands::FACTS_SIZE + commands::JOB_SIZE * (MAX_JOBS + 1);
+const TABLE_BYTES: usize = commands::FACTS_SIZE + commands::JOB_SIZE * (table::MAX_JOBS + 1);
 
 // A byte more than a start has tells a longer file.
 const START_BYTES: usize = program_text::START_SIZE + 1;

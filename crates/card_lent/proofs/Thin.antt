@@ -1,5 +1,5 @@
--- The thin functions over `&mut Card`: `let step = g(*card, table, x); *card = step.card; step.answer`, walked once for every covered g and every
--- plain struct x. The borrow is opened and the card read whole; g is called by value; its card is stored back, and its answer returned.
+-- The thin functions over `&mut Card`: `let before = *card; let step = g(before, table, x); *card = step.card; step.answer`, walked once for every
+-- covered g and every plain struct x. The borrow is opened and the card read whole; g is called by value; its card is stored back, and its answer returned.
 -- What g promises of the card by value, the function promises of the card that is lent.
 -- Assumes nothing.
 use mathlib.Core.Path.{_≡_, refl, ap}
@@ -66,14 +66,14 @@ module _ (P : Declared) where
             ∷ local (tyRef (named 0) mut (pointee (T.the-row .written))) valueLocal
             ∷ local (tyStruct (38 ∷ 91 ∷ 93 ∷ []) (tcons (tyRef (named 1) imm (tyInt w8)) (tcons (tyInt w64) tnil))) valueLocal
             ∷ local (layout (shape P)) valueLocal
-            ∷ local S′.mir valueLocal
             ∷ local T′.mir valueLocal
+            ∷ local S′.mir valueLocal
             ∷ [];
         body =
-            seq (assign (place 5 []) (rvOpd (copy (place 1 (deref T′.mir ∷ [])))))
-            (seq (call g (copy (place 5 []) ∷ copy (place 2 []) ∷ copy (place 3 []) ∷ []) (place 4 []))
-            (seq (assign (place 1 (deref T′.mir ∷ [])) (rvOpd (copy (place 4 (field 0 ∷ [])))))
-            (seq (assign (place 0 []) (rvOpd (copy (place 4 (field 1 ∷ []))))) return)));
+            seq (assign (place 4 []) (rvOpd (copy (place 1 (deref T′.mir ∷ [])))))
+            (seq (call g (copy (place 4 []) ∷ copy (place 2 []) ∷ copy (place 3 []) ∷ []) (place 5 []))
+            (seq (assign (place 1 (deref T′.mir ∷ [])) (rvOpd (copy (place 5 (field 0 ∷ [])))))
+            (seq (assign (place 0 []) (rvOpd (copy (place 5 (field 1 ∷ []))))) return)));
       }
 
   abbrev pub ended : Ended
@@ -215,12 +215,12 @@ module _ (P : Declared) (L : LL.Laws P) (pl : Plains (fields P)) (end : (p : P .
           move ! (1 ∷ []) $ peeks ! T.the-row (Is T.the-row) (shows 𝓤 H A T.the-row) h (LL.vals T.the-type T′.the-laws h) (λ was. move ! (1 ∷ 0 ∷ []) $
           -- [the card's cell; what a Card owns; the open borrow; obs; auth; the table's token; the other parameters'; _5; …; _4; …; _3; …; _2; …; _1; …;
           -- room for _0; …]
-          assigns ! (of-opd ! (load ! (from ! (hop ! (look ! 15 refl) (stop !))) (look ! 0 refl))) (from ! (stop !)) (init ! 7 refl (card-typed h was .0)) $
+          assigns ! (of-opd ! (load ! (from ! (hop ! (look ! 15 refl) (stop !))) (look ! 0 refl))) (from ! (stop !)) (init ! 9 refl (card-typed h was .0)) $
           -- a copy of what the table owns goes to the call
           move ! (6 ∷ 5 ∷ []) $ fsplit ! $ use1 W (‵ Own ⊛ ‵ Own) (shr-slice-copy 𝓤 H A W (named 1) κ′ u8 .twice s (v ∷ [])) $ split ! $
           move ! (0 ∷ 3 ∷ []) $ use2 W (raw (Asked P due 𝓤 H A .pre to-g)) (goes-g was) $
           calls-at ! fm (Asked P due 𝓤 H A) known to-g
-          (and-then ! (load ! (from ! (stop !)) (look ! 8 refl))
+          (and-then ! (load ! (from ! (stop !)) (look ! 10 refl))
           (and-then ! (load ! (from ! (stop !)) (look ! 14 refl))
           (and-then ! (load ! (from ! (stop !)) (look ! 12 refl)) (no-more !)))) (λ w.
           use1 W (later (some (λ (r : CardStep). ((‵ (flft κ′ q′) ⊛ ‵ ftrue) ⊛ ‵ (S.the-row .own r (w ∷ []))) ⊛ raw (Ensured r)))) (id⊢ 𝓤 _) $
@@ -229,11 +229,11 @@ module _ (P : Declared) (L : LL.Laws P) (pl : Plains (fields P)) (end : (p : P .
           peeks ! S.the-row (Is S.the-row) (shows 𝓤 H A S.the-row) r (w ∷ []) (λ is.
           -- [what a CardStep owns; the table's token; the table's; the others'; the card's cell; what a Card owns; the open borrow; obs; auth; _5; …; _4; …; _3; …;
           -- _2; …; _1; …; room for _0; …]
-          land ! (from ! (stop !)) (init ! 11 refl (LL.lawful S.the-type S′.the-laws 𝓤 H A W .typed r _ is .0)) $
-          rewrite ! 11 (λ (u : Val). ‵ (fat fullShare S′.mir l₄ 0 u)) (ap only (LL.tells S.the-type S′.the-laws r _ is)) refl $
-          assigns ! (of-opd ! (load ! (from ! (fld ! refl (stop !))) (look-in ! 11 (sub ! 0 refl (whole !))))) (from ! (hop ! (look ! 17 refl) (stop !)))
+          land ! (from ! (stop !)) (init ! 9 refl (LL.lawful S.the-type S′.the-laws 𝓤 H A W .typed r _ is .0)) $
+          rewrite ! 9 (λ (u : Val). ‵ (fat fullShare S′.mir l₅ 0 u)) (ap only (LL.tells S.the-type S′.the-laws r _ is)) refl $
+          assigns ! (of-opd ! (load ! (from ! (fld ! refl (stop !))) (look-in ! 9 (sub ! 0 refl (whole !))))) (from ! (hop ! (look ! 17 refl) (stop !)))
           (store ! 4 refl (card-typed (r .card) (card-is r w is) .0)) $
-          assigns ! (of-opd ! (load ! (from ! (fld ! refl (stop !))) (look-in ! 11 (sub ! 1 refl (whole !))))) (from ! (stop !))
+          assigns ! (of-opd ! (load ! (from ! (fld ! refl (stop !))) (look-in ! 9 (sub ! 1 refl (whole !))))) (from ! (stop !))
           (init ! 19 refl (EL.lawful O.the-type O′.the-laws 𝓤 H A W tt .typed (r .answer) _ (answer-is r w is) .0)) $
           -- the borrow is closed at the new card
           drop ! $ move ! (3 ∷ []) $

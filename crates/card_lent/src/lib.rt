@@ -10,23 +10,26 @@ ghost use Rattle.card_calls.specs.Calls.{opened, outsideRead, reported};
 pub fn open(card: &mut Card, table: &[u8], reading: Reading) -> CardAnswer
     ensures { λ r. ⌜ Updated (opened (now (table .entry)) reading) (now (card .entry)) (now (card .exit)) r ⌝ }
 {
-    let step = card_calls::opened(*card, table, reading);
-    *card = step.card;
-    step.answer
+    let before = *card;
+    let opened = card_calls::opened(before, table, reading);
+    *card = opened.card;
+    opened.answer
 }
 
 pub fn read_outside(card: &mut Card, table: &[u8], reading: Reading) -> CardAnswer
     ensures { λ r. ⌜ Updated (outsideRead (now (table .entry)) reading (now (card .entry))) (now (card .entry)) (now (card .exit)) r ⌝ }
 {
-    let step = card_calls::outside_read(*card, table, reading);
-    *card = step.card;
-    step.answer
+    let before = *card;
+    let read = card_calls::outside_read(before, table, reading);
+    *card = read.card;
+    read.answer
 }
 
 pub fn report(card: &mut Card, table: &[u8], report: JobReport) -> CardAnswer
     ensures { λ r. ⌜ Updated (reported (now (table .entry)) report (now (card .entry))) (now (card .entry)) (now (card .exit)) r ⌝ }
 {
-    let step = card_calls::reported(*card, table, report);
-    *card = step.card;
-    step.answer
+    let before = *card;
+    let reported = card_calls::reported(before, table, report);
+    *card = reported.card;
+    reported.answer
 }
