@@ -48,7 +48,14 @@ fn expand_goal(
     let mut adds = [0u64; table::MAX_JOBS];
     let mut deletes = [0u64; table::MAX_JOBS];
     let mut seconds = [0u16; table::MAX_JOBS];
-    job_rows::load_jobs(table, count, &mut needs, &mut adds, &mut deletes, &mut seconds);
+    job_rows::load_jobs(
+        table,
+        count,
+        &mut needs,
+        &mut adds,
+        &mut deletes,
+        &mut seconds,
+    );
     expander::expand(
         &needs[..count],
         &adds[..count],

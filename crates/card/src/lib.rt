@@ -1,9 +1,9 @@
 // The job card of a vehicle: its masks, its counts, what one more report makes of them, and the lateness that is read off it
 // (document 01, "Job card"). The calls on it, which begin with a table's checks, are in `card_calls`.
+use job::Job;
 use reading::Reading;
 use refusal::Reason;
 use refusal::Refusal;
-use job::Job;
 ghost use mathlib.Core.Path.{_≡_};
 ghost use mathlib.Core.Bool.{false};
 ghost use lib.IntN.{pos, _-ℤ_};

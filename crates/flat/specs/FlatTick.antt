@@ -6,7 +6,6 @@ use mathlib.Core.List.{List, [], _∷_}
 use lib.Dec.{T}
 use lib.ListN.{length, getD}
 use Rattle.reading.specs.declared.Reading.{Reading}
-use Rattle.conditions.specs.declared.Evaluation.{Evaluation}
 use Rattle.conditions.specs.declared.Evaluation.the-variants.{Met, Missed, Open}
 use Rattle.conditions.specs.Condition.{Condition, satisfied}
 use Rattle.conditions.specs.OnReading.{evaluated, Confirmed}

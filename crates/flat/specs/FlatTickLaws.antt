@@ -1,6 +1,6 @@
 -- The tick of a list's tree is that of its entries, one after the other, and what it promises: document 01, "Ticking" and "Work on a vehicle".
 -- Assumes nothing.
-use Prim.Native.Nat.{ℕ, zero, suc, _+_, _≤_, _<_}
+use Prim.Native.Nat.{ℕ, zero, suc, _≤_, _<_}
 use native.Mathlib.Nat.{not-suc-le-zero}
 use native.Mathlib.Omega.{arith}
 use mathlib.Core.Path.{_≡_, refl, sym, ap, _∙_}
@@ -8,8 +8,8 @@ use mathlib.Core.Bool.{Bool, true, false, not}
 use mathlib.Core.List.{List, [], _∷_}
 use mathlib.Core.Logic.{_⊎_, inl, inr, ⊎-elim, _↔_}
 use lib.Dec.{T, T-not}
-use lib.ListN.{length, getD}
-use Rattle.base.specs.Bools.{if_then_else_, holds, fails}
+use lib.ListN.{length}
+use Rattle.base.specs.Bools.{holds, fails}
 use Rattle.masks.specs.Sets.{intersects}
 use Rattle.reading.specs.declared.Reading.{Reading}
 use Rattle.reading.specs.Reading.{Completes, state}
@@ -25,7 +25,7 @@ use Rattle.tree.specs.declared.Kind.the-variants.{Fallback}
 use Rattle.tree.specs.declared.Status.{Status}
 use Rattle.tree.specs.declared.Status.the-variants.{Success, Failure, Running, Unsettled}
 use Rattle.tree.specs.Tree.{Tree}
-use Rattle.tree.specs.Tick.{statusOf, goesOn, continueTable, Verdict, tickBy, tickRow, tickTree}
+use Rattle.tree.specs.Tick.{goesOn, continueTable, Verdict, tickBy, tickRow, tickTree}
 use Rattle.runs.specs.Runs.{answerOfStatus}
 use Rattle.flat.specs.TreeBytes.{conditionAt, actionAt, pastEntry, rootConditionAt}
 use Rattle.flat.specs.TreeBytesLaws.{condition-size, action-size, first-parts, entry-parts}

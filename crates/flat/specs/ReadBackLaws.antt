@@ -15,7 +15,7 @@ use Rattle.masks.specs.Sets.{within}
 use Rattle.masks.specs.Laws.{within-word}
 use Rattle.refusal.specs.Checked.{accepted}
 use Rattle.commands.specs.declared.Found.the-variants.{Whole}
-use Rattle.commands.specs.Commands.{CONDITION, JOB-LEAF, END-OF-TREE, END-OF-TREE-SIZE, OPERANDS-AT, MASK-WIDTH, widthOf, commandAt}
+use Rattle.commands.specs.Commands.{CONDITION, JOB-LEAF, END-OF-TREE, OPERANDS-AT, MASK-WIDTH, widthOf, commandAt}
 use Rattle.commands.specs.CommandLaws.{at-whole}
 use Rattle.numbers.specs.Numbers.{toBytes, numberAt}
 use Rattle.numbers.specs.NumberLaws.{from-to, read-drop}
@@ -36,7 +36,7 @@ use Rattle.tree.specs.Tick.{tickTree}
 use Rattle.tree.specs.TickBytes.{tickChecked, tickBytes}
 use Rattle.tree.specs.TickBytesLaws.{bytes-read}
 use Rattle.flat.specs.TreeBytes.{branchBytes, conditionBytes, actionBytes, endBytes, firstBytes, entryBytes, laterEntries, treeBytes, conditionAt, actionAt, pastEntry, rootConditionAt}
-use Rattle.flat.specs.TreeBytesLaws.{branch-size, condition-size, action-size, tree-length}
+use Rattle.flat.specs.TreeBytesLaws.{tree-length}
 use Rattle.flat.specs.FlatTree.{laterTree, rowFrom, rootTree, laterAt, treeOf, Each, Fits}
 
 -- ---- bytes that stand at an offset
@@ -160,9 +160,9 @@ module _ (facts jobs : ℕ) (x : Entry Condition) (l : List (Entry Condition)) (
   unfolding readNode firstBytes
   root-read =
       let head = node-branch bytes _ 0 Fallback size (f .some) (f .few) start in
-      let child = condition-read bytes facts jobs (f .facts-fit) 14 (rootConditionAt size) (x .condition) _ (f .conditions-fit .0) first in
+      let child = condition-read bytes facts jobs (f .facts-fit) (maxDepth - 2) (rootConditionAt size) (x .condition) _ (f .conditions-fit .0) first in
       let past : rootConditionAt size + length (conditionBytes (x .condition)) ≡ laterAt size x = sym (length-append (branchBytes Fallback size) (conditionBytes (x .condition))) in
-      let row = row-read bytes facts jobs (f .facts-fit) 13 l (rootTree size x) (rootConditionAt size) (laterAt size x) endBytes (f .conditions-fit .1) (f .actions-fit) (rw past at child) others in
+      let row = row-read bytes facts jobs (f .facts-fit) (maxDepth - 3) l (rootTree size x) (rootConditionAt size) (laterAt size x) endBytes (f .conditions-fit .1) (f .actions-fit) (rw past at child) others in
       let less : suc (length l) - 1 ≡ length l = omega arith in
       let begins : 0 + length (branchBytes Fallback size) ≡ rootConditionAt size = zero-add (length (branchBytes Fallback size)) in
       rw (← head, less, begins, row)

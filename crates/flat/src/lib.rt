@@ -12,7 +12,9 @@ ghost use Rattle.flat.specs.TreeBytes.{conditionBytes, actionBytes, endB
 // What stands before the entries after the first, and what each of these takes, by the one table of commands.
 const FIRST_SIZE: usize = commands::FALLBACK_SIZE + commands::CONDITION_SIZE;
 
-const ENTRY_SIZE: usize = commands::SEQUENCE_SIZE + commands::CONDITION_SIZE + commands::JOB_LEAF_SIZE;
+const ENTRY_SIZE: usize = commands::SEQUENCE_SIZE
+    + commands::CONDITION_SIZE
+    + commands::JOB_LEAF_SIZE;
 
 // How many bytes the tree of a list of so many entries takes.
 pub fn tree_size(n: usize) -> usize

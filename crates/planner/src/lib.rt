@@ -85,11 +85,11 @@ fn summarize(
     requires { ⌜ (accepted header ≡ headed (readTable (now table)))
         × Traced (length (jobsOf (readTable (now table)))) (size .entries) (now actions) (now parents) (now depths) ⌝ }
     ensures { λ r. ⌜ r ≡ record {
-        entries = size .entries;
-        bytes = size .bytes;
-        jobs = length (path (linked (now (actions .entry)) (now (parents .entry))) (size .entries - 1));
-        minutes = nearest (secondsOf (jobsOf (readTable (now (table .entry)))) (path (linked (now (actions .entry)) (now (parents .entry))) (size .entries - 1)));
-        } ⌝ }
+      entries = size .entries;
+      bytes = size .bytes;
+      jobs = length (path (linked (now (actions .entry)) (now (parents .entry))) (size .entries - 1));
+      minutes = nearest (secondsOf (jobsOf (readTable (now (table .entry)))) (path (linked (now (actions .entry)) (now (parents .entry))) (size .entries - 1)));
+    } ⌝ }
 {
     let count = header.jobs;
     let entries = size.entries;

@@ -35,6 +35,10 @@ walkLeaf c at next depth live x =
     else if inRange (c .facts) (c .jobs) x then accepted (record { value = answerIf live (leafAnswer (c .reading) x); next = next })
     else refused 15 at
 
+-- the nodes of a tree's bytes at a depth, by their offsets
+abbrev pub nodesAt : List ℕ → Context → ℕ → ℕ → Checked (Past Tree)
+nodesAt s c depth = readNode s (c .facts) (c .jobs) (levelsAt depth)
+
 module _ (rows : List (List Bool)) where
   -- what a node that was read comes to
   abbrev pub walked : Reading → Bool → Checked (Past Tree) → Checked (Past Status)
@@ -49,17 +53,13 @@ module _ (rows : List (List Bool)) where
       walkRow r kind child n (live && goesOn rows kind answer) (if live then answer else a) (t .next)
 
   module _ (s : List ℕ) (c : Context) where
-    -- the nodes of a tree's bytes at a depth
-    abbrev pub nodesAt : ℕ → ℕ → Checked (Past Tree)
-    nodesAt depth = readNode s (c .facts) (c .jobs) (levelsAt depth)
-
     -- the node at an offset and a depth
     abbrev pub walkNode : ℕ → ℕ → Bool → Checked (Past Status)
-    walkNode at depth live = walked (c .reading) live (nodesAt depth at)
+    walkNode at depth live = walked (c .reading) live (nodesAt s c depth at)
 
     -- the children of a node, at a depth
     abbrev pub walkChildren : Kind → ℕ → ℕ → Bool → Status → ℕ → Checked (Past Status)
-    walkChildren kind depth = walkRow (c .reading) kind (nodesAt depth)
+    walkChildren kind depth = walkRow (c .reading) kind (nodesAt s c depth)
 
     -- What is left of a row gives the whole of it: so many children from an offset on, whether they are ticked, and the answer so far.
     pub record RowLeft (kind : Kind) (depth first count : ℕ) (live : Bool) (at left : ℕ) (going : Bool) (a : Status) : Type 0 where

@@ -21,7 +21,7 @@ use Rattle.tree.specs.declared.Status.{Status}
 use Rattle.tree.specs.declared.Status.the-variants.{Success}
 use Rattle.tree.specs.Tree as Tree
 use Rattle.tree.specs.Tree.{Tree, Row, more}
-use Rattle.tree.specs.ReadTree.{maxDepth, Node, branch, leaf, nodeAt, inRange, readRow, readNode}
+use Rattle.tree.specs.ReadTree.{maxDepth, branch, leaf, nodeAt, inRange, readRow, readNode}
 use Rattle.tree.specs.ReadTreeLaws.{branch-some, read-onward}
 use Rattle.tree.specs.Tick.{leafAnswer, kindIndex, statusIndex, goesOn, Verdict, tickBy, tickRow}
 use Rattle.tree.specs.TickLaws.{row-on, row-stop}
@@ -141,7 +141,7 @@ module _ (rows : List (List Bool)) (s : List ℕ) (c : Context) (at depth : ℕ)
         by-count (suc n) q h =
             let less : suc n - 1 ≡ n = omega arith in
             rw (level d, ← q, less)
-            (row-walked rows (c .reading) kind (nodesAt rows s c (depth + 1)) n live next ∙ sym (then-then (readRow (nodesAt rows s c (depth + 1)) n next) _ _))
+            (row-walked rows (c .reading) kind (nodesAt s c (depth + 1)) n live next ∙ sym (then-then (readRow (nodesAt s c (depth + 1)) n next) _ _))
 
 -- ---- a turn of a row, in the code's own values: `at` is the offset, `left` the children left, `going` and `a` what is carried
 
@@ -166,9 +166,9 @@ module _ (rows : List (List Bool)) (s : List ℕ) (c : Context) (kind : Kind) (d
 
       pub row-stops : (x : Refusal) → child ≡ Walk.Refused x → refusedBy x ≡ whole
       unfolding walkRow
-      row-stops x e = by-child (nodesAt rows s c depth at) refl (ap walkOf (sym e) ∙ n) ∙ i .is
+      row-stops x e = by-child (nodesAt s c depth at) refl (ap walkOf (sym e) ∙ n) ∙ i .is
         where
-          by-child : (t : Checked (Past Tree)) → nodesAt rows s c depth at ≡ t → refusedBy x ≡ walked rows (c .reading) going t
+          by-child : (t : Checked (Past Tree)) → nodesAt s c depth at ≡ t → refusedBy x ≡ walked rows (c .reading) going t
               → refusedBy x ≡ walkChildren rows s c kind depth left going a at
           by-child (accepted t) f q = absurd (not-both q)
           by-child (refused j k) f q = rw (taken, f) q
@@ -178,9 +178,9 @@ module _ (rows : List (List Bool)) (s : List ℕ) (c : Context) (kind : Kind) (d
         child-is = ap walkOf (sym e) ∙ n
 
         child-onward : first ≤ next
-        child-onward = by-child (nodesAt rows s c depth at) refl child-is
+        child-onward = by-child (nodesAt s c depth at) refl child-is
           where
-            by-child : (t : Checked (Past Tree)) → nodesAt rows s c depth at ≡ t → accepted (record { value = b; next = next }) ≡ walked rows (c .reading) going t → first ≤ next
+            by-child : (t : Checked (Past Tree)) → nodesAt s c depth at ≡ t → accepted (record { value = b; next = next }) ≡ walked rows (c .reading) going t → first ≤ next
             by-child (accepted t) f q =
                 let en : next ≡ t .next = ap (λ (p : Past Status). p .next) (accepted-same q) in
                 omega (arith, i .onward, read-onward s (c .facts) (c .jobs) (levelsAt depth) at t f)
@@ -190,9 +190,9 @@ module _ (rows : List (List Bool)) (s : List ℕ) (c : Context) (kind : Kind) (d
         pub row-goes : (g : Bool) (a′ : Status) (k j : ℕ) → going ≡ true → k ≡ kindIndex kind → j ≡ statusIndex b → g ≡ getD (getD rows k []) j false → a′ ≡ b
             → Left next (left - 1) g a′
         unfolding walkRow
-        row-goes g a′ k j o ek ej eg ea = record { is = by-child (left - 1) taken (nodesAt rows s c depth at) refl (rw o at child-is) ∙ i .is; onward = child-onward }
+        row-goes g a′ k j o ek ej eg ea = record { is = by-child (left - 1) taken (nodesAt s c depth at) refl (rw o at child-is) ∙ i .is; onward = child-onward }
           where
-            by-child : (n : ℕ) → left ≡ suc n → (t : Checked (Past Tree)) → nodesAt rows s c depth at ≡ t
+            by-child : (n : ℕ) → left ≡ suc n → (t : Checked (Past Tree)) → nodesAt s c depth at ≡ t
                 → accepted (record { value = b; next = next }) ≡ walked rows (c .reading) true t
                 → walkChildren rows s c kind depth n g a′ next ≡ walkChildren rows s c kind depth left going a at
             by-child n l (accepted t) f q =
@@ -205,9 +205,9 @@ module _ (rows : List (List Bool)) (s : List ℕ) (c : Context) (kind : Kind) (d
         -- the child was only checked: the answer stays
         pub row-keeps : (g : Bool) (a′ : Status) → going ≡ false → g ≡ going → a′ ≡ a → Left next (left - 1) g a′
         unfolding walkRow
-        row-keeps g a′ o eg ea = record { is = by-child (left - 1) taken (nodesAt rows s c depth at) refl (rw o at child-is) ∙ i .is; onward = child-onward }
+        row-keeps g a′ o eg ea = record { is = by-child (left - 1) taken (nodesAt s c depth at) refl (rw o at child-is) ∙ i .is; onward = child-onward }
           where
-            by-child : (n : ℕ) → left ≡ suc n → (t : Checked (Past Tree)) → nodesAt rows s c depth at ≡ t
+            by-child : (n : ℕ) → left ≡ suc n → (t : Checked (Past Tree)) → nodesAt s c depth at ≡ t
                 → accepted (record { value = b; next = next }) ≡ walked rows (c .reading) false t
                 → walkChildren rows s c kind depth n g a′ next ≡ walkChildren rows s c kind depth left going a at
             by-child n l (accepted t) f q =

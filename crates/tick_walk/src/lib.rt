@@ -123,7 +123,17 @@ fn tick_row(
         let child = match tree::node_at(tree, at) {
             NodeRead::Malformed(place) => refuse(Reason::BadTree, place),
             NodeRead::Leaf(leaf, next) => tick_leaf(leaf, at, next, depth, going, context),
-            NodeRead::Branch(k, n, next) => tick_node(tree, at, next, k, n, depth, going, context, rows),
+            NodeRead::Branch(k, n, next) => tick_node(
+                tree,
+                at,
+                next,
+                k,
+                n,
+                depth,
+                going,
+                context,
+                rows,
+            ),
         };
         match child {
             Walk::Refused(x) => {

@@ -3,7 +3,7 @@ use Prim.Native.Nat.{ℕ, zero, suc}
 use mathlib.Core.Path.{_≡_, refl}
 use mathlib.Core.List.{List, [], _∷_, _++_, map}
 use Rattle.masks.specs.Sets.{intersects, within}
-use Rattle.refusal.specs.Checked.{Checked, accepted, refused}
+use Rattle.refusal.specs.Checked.{accepted, refused}
 use Rattle.commands.specs.Commands.{FACTS, GOAL, END-OF-TABLE, FALLBACK, SEQUENCE, CONDITION, JOB-LEAF, END-OF-TREE, MASK-WIDTH, widthOf, commandAt}
 use Rattle.numbers.specs.Numbers.{fromBytes, toBytes, numberAt}
 use Rattle.reading.specs.declared.Reading.{Reading}
@@ -11,7 +11,7 @@ use Rattle.reading.specs.Reading.{sound}
 use Rattle.table.specs.Read.{due, readEnd, readGoal, readJobs, readTable}
 use Rattle.tree.specs.declared.Status.the-variants.{Running}
 use Rattle.tree.specs.ReadTree.{countWidth, wholeAt, operandsOf, nodeAt, readRow, readNode, readTree, readEnd as readTreeEnd}
-use Rattle.tree.specs.Tick.{Verdict, tickBy}
+use Rattle.tree.specs.Tick.{tickBy}
 use Rattle.tree.specs.TickBytes.{tickChecked, tickBytes}
 
 abbrev asks : ℕ → List ℕ

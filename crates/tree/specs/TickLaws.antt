@@ -11,7 +11,7 @@ use Rattle.reading.specs.declared.Reading.{Reading}
 use Rattle.reading.specs.Reading.{Completes, state}
 use Rattle.conditions.specs.declared.Evaluation.{Evaluation}
 use Rattle.conditions.specs.declared.Evaluation.the-variants.{Met, Missed, Open}
-use Rattle.conditions.specs.Condition.{satisfied} 
+use Rattle.conditions.specs.Condition.{satisfied}
 use Rattle.conditions.specs.OnReading.{evaluated}
 use Rattle.conditions.specs.OnReadingLaws.{evaluated-state, met-everywhere, missed-everywhere}
 use Rattle.tree.specs.declared.Kind.{Kind}

@@ -1,5 +1,5 @@
-// Behaviour trees in bytes (document 01, "Commands" and "Ticking"): a node's command with its operands, as far as 13 of "Stops, in checking order"
-// judges a node by itself, and what a leaf answers.
+// Behaviour trees in bytes: a node's command with its operands, with what stop 13 asks of a node by itself, and what a leaf answers (document 01,
+// "Commands", "Ticking" and "Stops, in checking order").
 use conditions::Evaluation;
 use reading::Reading;
 ghost use mathlib.Core.Path.{_≡_};
@@ -41,7 +41,7 @@ pub enum NodeRead {
     Branch(Kind, usize, usize),
     // A leaf, and the offset past its operands.
     Leaf(Leaf, usize),
-    // Nothing that 13 lets stand there; its place.
+    // What stop 13 refuses, and its place.
     Malformed(usize),
 }
 
@@ -115,7 +115,7 @@ pub fn node_at(tree: &[u8], at: usize) -> NodeRead
     NodeRead::Malformed(at)
 }
 
-// Are a leaf's operands in range, for so many facts and jobs? 15 where they are not.
+// Are a leaf's operands in range, for so many facts and jobs? Where they are not, stop 15 arises.
 pub fn is_in_range(facts: u8, jobs: usize, leaf: Leaf) -> bool
     ensures { λ r. ⌜ r ≡ inRange facts jobs leaf ⌝ }
 {

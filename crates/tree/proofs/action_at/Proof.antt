@@ -23,7 +23,7 @@ add-t5 : tie.Need-add-t5
 add-t5 c = search needs
 
 shared-slice-read-t7 : tie.Need-shared-slice-read-t7
-shared-slice-read-t7 c = 
+shared-slice-read-t7 c =
     let a = c .before .before .before .before .args in
     omega (arith, ltb-false (length (a .tree .now)) (a .at + JOB-LEAF-SIZE) (sym (c .before .before .is-cut .ensures) ∙ c .before .if1 .left))
 

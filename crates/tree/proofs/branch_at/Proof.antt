@@ -23,7 +23,7 @@ add-read-u16 : tie.Need-add-read-u16
 add-read-u16 c = search needs
 
 read-u16-requires : tie.Need-read-u16-requires
-read-u16-requires c κs = 
+read-u16-requires c κs =
     let a = c .before .before .before .args in
     omega (arith, ltb-false (length (a .tree .now)) (a .at + FALLBACK-SIZE) (sym (c .before .is-cut .ensures) ∙ c .if1 .left))
 

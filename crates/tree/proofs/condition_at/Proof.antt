@@ -23,7 +23,7 @@ add-read-u64 : tie.Need-add-read-u64
 add-read-u64 c = search needs
 
 read-u64-requires : tie.Need-read-u64-requires
-read-u64-requires c κs = 
+read-u64-requires c κs =
     let a = c .before .before .before .args in
     omega (arith, ltb-false (length (a .tree .now)) (a .at + CONDITION-SIZE) (sym (c .before .is-cut .ensures) ∙ c .if1 .left))
 
