@@ -30,6 +30,9 @@ pub struct Command {
 // How many commands there are.
 pub const COUNT: usize = 9;
 
+// END, of a table or a tree, is its byte alone.
+const NO_OPERANDS: usize = 0;
+
 pub const COMMANDS: [Command; COUNT] = [
     Command {
         byte: FACTS,
@@ -45,7 +48,7 @@ pub const COMMANDS: [Command; COUNT] = [
     },
     Command {
         byte: END_OF_TABLE,
-        width: 0,
+        width: NO_OPERANDS,
     },
     Command {
         byte: FALLBACK,
@@ -65,7 +68,7 @@ pub const COMMANDS: [Command; COUNT] = [
     },
     Command {
         byte: END_OF_TREE,
-        width: 0,
+        width: NO_OPERANDS,
     },
 ];
 

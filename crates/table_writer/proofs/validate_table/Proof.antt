@@ -100,7 +100,7 @@ returns-2 c =
     let t = c .before .before in
     let l = t .before .loop in
     let a = entry-of (t .before) .args in
-    ap tableValidatedOf (c .refused2 .ensures) ∙ ap placed (turn-full (a .facts) (a .goal) (jobs (entry-of (t .before))) (l .i) (l .at) (inside t) (c .before .if2 .taken) ∙ l .inv .1)
+    ap tableValidatedOf (c .refused2 .ensures) ∙ ap placed (turn-full (a .facts) (a .goal) (jobs (entry-of (t .before))) (l .i) (l .at) (inside t) (omega (arith, c .before .if2 .taken, l .inv .0 .1)) ∙ l .inv .1)
 
 row-at-requires : tie.Need-row-at-requires Inv-loop μ-loop
 row-at-requires c κs = (c .before .loop-test .taken, entry-of (c .before .before) .pre)

@@ -74,7 +74,7 @@ add-size c = omega (arith, passed c .is-small)
 returns-2 : tie.Need-returns-2
 returns-2 c =
     let v = checked-of (c .before) in
-    wrote-short _ (table (start-of (even-of v))) _ (storable (even-of v)) (is-even v) _ _ (passed (c .before)) (omega arith) (c .if2 .taken)
+    wrote-short _ (table (start-of (even-of v))) _ (storable (even-of v)) (is-even v) _ _ (passed (c .before)) (omega arith) (omega (arith, c .if2 .taken))
 
 slice-write-out : tie.Need-slice-write-out
 slice-write-out c = search needs
