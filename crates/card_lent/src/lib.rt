@@ -12,7 +12,8 @@ pub fn open(card: &mut Card, table: &[u8], reading: Reading) -> CardAnswer
 {
     let before = *card;
     let opened = card_calls::opened(before, table, reading);
-    *card = opened.card;
+    let fresh = opened.card;
+    *card = fresh;
     opened.answer
 }
 
@@ -21,7 +22,8 @@ pub fn read_outside(card: &mut Card, table: &[u8], reading: Reading) -> CardAnsw
 {
     let before = *card;
     let read = card_calls::outside_read(before, table, reading);
-    *card = read.card;
+    let seen = read.card;
+    *card = seen;
     read.answer
 }
 
@@ -30,6 +32,7 @@ pub fn report(card: &mut Card, table: &[u8], report: JobReport) -> CardAnswer
 {
     let before = *card;
     let reported = card_calls::reported(before, table, report);
-    *card = reported.card;
+    let booked = reported.card;
+    *card = booked;
     reported.answer
 }

@@ -27,6 +27,6 @@ open-spec 𝓤 H 𝓜 𝓖 𝓡 =
     let due : List ℕ → Reading → Card → Checked Card = λ s r c. opened s r in
     entered 𝓤 H (tripleOf 𝓤 H (𝓖 .A) f.signature (f.spec 𝓤 H (𝓖 .A) (𝓜 .mem) (𝓡 .run)))
     (tables 𝓤 H 𝓜 𝓡 code.env .C) (tables 𝓤 H 𝓜 𝓡 code.env .Λ) #card-lent·open code.function (code.unfolded 𝓤 H 𝓜 𝓡)
-    (thin-meets X.the-type X′.the-laws X′.the-plain (λ p. tt) (λ p f. refl) due 𝓤 H (𝓖 .A) (givenOf 𝓤 H 𝓜 𝓖) #card-calls·opened
+    (thin-meets X.the-type X′.the-laws X′.the-plain (λ p. tt) (λ p f. refl) due 𝓤 H (𝓖 .A) (givenOf 𝓤 H 𝓜 𝓖) code.function #card-calls·opened _ refl
     (tablesOf 𝓤 H 𝓜 (tables 𝓤 H 𝓜 𝓡 code.env))
     (cited 𝓤 H (Asked X.the-type due 𝓤 H (𝓖 .A)) 𝓜 𝓡 code.env #card-calls·opened g-def.routine code.calls-card-calls·opened (g-thm.met 𝓤 H 𝓜 𝓖 𝓡)))

@@ -21,6 +21,6 @@ unfolding code.routine tablesOf
 read-outside-spec 𝓤 H 𝓜 𝓖 𝓡 =
     entered 𝓤 H (tripleOf 𝓤 H (𝓖 .A) f.signature (f.spec 𝓤 H (𝓖 .A) (𝓜 .mem) (𝓡 .run)))
     (tables 𝓤 H 𝓜 𝓡 code.env .C) (tables 𝓤 H 𝓜 𝓡 code.env .Λ) #card-lent·read-outside code.function (code.unfolded 𝓤 H 𝓜 𝓡)
-    (thin-meets X.the-type X′.the-laws X′.the-plain (λ p. tt) (λ p f. refl) outsideRead 𝓤 H (𝓖 .A) (givenOf 𝓤 H 𝓜 𝓖) #card-calls·outside-read
+    (thin-meets X.the-type X′.the-laws X′.the-plain (λ p. tt) (λ p f. refl) outsideRead 𝓤 H (𝓖 .A) (givenOf 𝓤 H 𝓜 𝓖) code.function #card-calls·outside-read _ refl
     (tablesOf 𝓤 H 𝓜 (tables 𝓤 H 𝓜 𝓡 code.env))
     (cited 𝓤 H (Asked X.the-type outsideRead 𝓤 H (𝓖 .A)) 𝓜 𝓡 code.env #card-calls·outside-read g-def.routine code.calls-card-calls·outside-read (g-thm.met 𝓤 H 𝓜 𝓖 𝓡)))
