@@ -88,10 +88,11 @@ END-OF-TREE-SIZE = sizeIn commands END-OF-TREE
 abbrev pub OPERANDS-AT : ℕ
 OPERANDS-AT = 1
 
--- where the operands of a JOB stand, from its byte on: "needs, adds, deletes (8 bytes each), seconds (2 bytes)"
+-- "mask, 8"
 abbrev pub MASK-WIDTH : ℕ
 MASK-WIDTH = 8
 
+-- where the operands of a JOB stand, from its byte on: "needs, adds, deletes (8 bytes each), seconds (2 bytes)"
 abbrev pub NEEDS-AT : ℕ
 NEEDS-AT = OPERANDS-AT
 

@@ -91,7 +91,7 @@ pub const JOB_LEAF_SIZE: usize = 1 + COMMANDS[7].width;
 
 pub const END_OF_TREE_SIZE: usize = 1 + COMMANDS[8].width;
 
-// A mask takes as many bytes as GOAL's operand, which is one.
+// GOAL's operand is a mask.
 pub const MASK_WIDTH: usize = COMMANDS[2].width;
 
 // Where the first operand of a command stands, from its byte on.

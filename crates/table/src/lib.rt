@@ -71,8 +71,8 @@ fn command_due(s: &[u8], at: usize, stage: Stage) -> Due
     match commands::command_at(s, at) {
         Found::Missing => refuse(Reason::TableCut, s.len()),
         Found::Unknown => refuse(Reason::CommandNotAllowed, at),
-        Found::Cut(byte) => {
-            if is_allowed(stage, byte) {
+        Found::Cut(cut) => {
+            if is_allowed(stage, cut) {
                 refuse(Reason::TableCut, at)
             } else {
                 refuse(Reason::CommandNotAllowed, at)

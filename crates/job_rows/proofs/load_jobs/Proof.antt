@@ -28,14 +28,17 @@ abbrev μ-loop : tie.MeasureT-loop
 
 -- ---- the places that several answers look back at
 
+abbrev known-of : tie.At-loop Inv-loop μ-loop → tie.After-shared-slice-known Inv-loop μ-loop
+known-of c = c .before .before .before .before .before
+
 abbrev start-of : tie.At-loop Inv-loop μ-loop → tie.Start Inv-loop μ-loop
-start-of c = c .before .before .before .before .before .before
+start-of c = known-of c .before
 
 here : (c : tie.In-loop Inv-loop μ-loop) → JobHere (start-of (c .before) .args .table .now) (c .before .loop .i) (c .before .loop .at)
 here c =
     let l = c .before .loop in
     let s = start-of (c .before) in
-    job-here (s .args .table .now) (λ i. c .before .before .before .before .before .before .shared-slice-known .given i .fits) (l .i) (l .at) (omega (arith, c .loop-test .taken, s .pre .0)) (l .inv .1)
+    job-here (s .args .table .now) (λ i. known-of (c .before) .shared-slice-known .given i .fits) (l .i) (l .at) (omega (arith, c .loop-test .taken, s .pre .0)) (l .inv .1)
 
 -- ---- the needs
 

@@ -6,6 +6,13 @@ use Rattle.numbers.specs.NumberLaws.{write-append}
 use Rattle.numbers.proofs.write_u32.Statement.{statement}
 use Rattle.numbers.proofs.write_u32.Tie as tie
 
+-- the lower half is written
+abbrev low-of : tie.After-write-u162 → tie.After-write-u16
+low-of c = c .before .before .before .before
+
+abbrev start-of : tie.After-write-u16 → tie.Start
+start-of c = c .before .before .before
+
 cast-write-u16 : tie.Need-cast-write-u16
 cast-write-u16 c = search needs
 
@@ -26,8 +33,9 @@ same-length c = search needs
 
 returns : tie.Need-returns
 returns c =
-    let a = c .before .before .before .before .before .before .before .before .before .args in
-    c .before .before .write-u162 .ensures ∙ rw (c .before .before .before .before .before .before .write-u16 .ensures) (write-append (a .s .now) (a .at) 2 2 (a .v))
+    let high = c .before .before in
+    let a = start-of (low-of high) .args in
+    high .write-u162 .ensures ∙ rw (low-of high .write-u16 .ensures) (write-append (a .s .now) (a .at) 2 2 (a .v))
 
 pub write-u32-spec : {M : Type 1} → statement M
 write-u32-spec =

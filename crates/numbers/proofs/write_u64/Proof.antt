@@ -6,6 +6,13 @@ use Rattle.numbers.specs.NumberLaws.{write-append}
 use Rattle.numbers.proofs.write_u64.Statement.{statement}
 use Rattle.numbers.proofs.write_u64.Tie as tie
 
+-- the lower half is written
+abbrev low-of : tie.After-write-u322 → tie.After-write-u32
+low-of c = c .before .before .before .before
+
+abbrev start-of : tie.After-write-u32 → tie.Start
+start-of c = c .before .before .before
+
 cast-write-u32 : tie.Need-cast-write-u32
 cast-write-u32 c = search needs
 
@@ -26,8 +33,9 @@ same-length c = search needs
 
 returns : tie.Need-returns
 returns c =
-    let a = c .before .before .before .before .before .before .before .before .before .args in
-    c .before .before .write-u322 .ensures ∙ rw (c .before .before .before .before .before .before .write-u32 .ensures) (write-append (a .s .now) (a .at) 4 4 (a .v))
+    let high = c .before .before in
+    let a = start-of (low-of high) .args in
+    high .write-u322 .ensures ∙ rw (low-of high .write-u32 .ensures) (write-append (a .s .now) (a .at) 4 4 (a .v))
 
 pub write-u64-spec : {M : Type 1} → statement M
 write-u64-spec =

@@ -22,8 +22,8 @@ enum-told-2 c = search needs
 refuse-requires-2 : tie.Need-refuse-requires-2
 refuse-requires-2 c κs = search needs
 
-enum-known-byte : tie.Need-enum-known-byte
-enum-known-byte c = search needs
+enum-known-cut : tie.Need-enum-known-cut
+enum-known-cut c = search needs
 
 is-allowed-requires : tie.Need-is-allowed-requires
 is-allowed-requires c κs = search needs
@@ -34,8 +34,8 @@ refuse-requires-3 c κs = search needs
 refuse-requires-4 : tie.Need-refuse-requires-4
 refuse-requires-4 c κs = search needs
 
-enum-known-byte-2 : tie.Need-enum-known-byte-2
-enum-known-byte-2 c = search needs
+enum-known-byte : tie.Need-enum-known-byte
+enum-known-byte c = search needs
 
 is-allowed-requires-2 : tie.Need-is-allowed-requires-2
 is-allowed-requires-2 c κs = search needs
@@ -52,22 +52,22 @@ returns-2 c = ap dueOf (c .refuse2 .ensures) ∙ due-unknown _ _ _ (sym (c .befo
 returns-3 : tie.Need-returns-3
 returns-3 c =
     let b = c .before .before .before .before in
-    ap dueOf (c .refuse3 .ensures) ∙ due-cut _ _ _ _ (sym (b .before .before .command-at .ensures) ∙ b .byte .given .1) (sym (c .before .before .is-allowed .ensures) ∙ c .before .if1 .taken)
+    ap dueOf (c .refuse3 .ensures) ∙ due-cut _ _ _ _ (sym (b .before .before .command-at .ensures) ∙ b .cut .given .1) (sym (c .before .before .is-allowed .ensures) ∙ c .before .if1 .taken)
 
 returns-4 : tie.Need-returns-4
 returns-4 c =
     let b = c .before .before .before .before in
-    ap dueOf (c .refuse4 .ensures) ∙ due-cut-other _ _ _ _ (sym (b .before .before .command-at .ensures) ∙ b .byte .given .1) (sym (c .before .before .is-allowed .ensures) ∙ c .before .if1 .left)
+    ap dueOf (c .refuse4 .ensures) ∙ due-cut-other _ _ _ _ (sym (b .before .before .command-at .ensures) ∙ b .cut .given .1) (sym (c .before .before .is-allowed .ensures) ∙ c .before .if1 .left)
 
 returns-5 : tie.Need-returns-5
 returns-5 c =
     let b = c .before .before .before in
-    due-whole _ _ _ _ _ (sym (b .before .before .command-at .ensures) ∙ b .byte2 .given .1) (sym (c .before .is-allowed2 .ensures) ∙ c .if2 .taken)
+    due-whole _ _ _ _ _ (sym (b .before .before .command-at .ensures) ∙ b .byte .given .1) (sym (c .before .is-allowed2 .ensures) ∙ c .if2 .taken)
 
 returns-6 : tie.Need-returns-6
 returns-6 c =
     let b = c .before .before .before .before in
-    ap dueOf (c .refuse5 .ensures) ∙ due-other _ _ _ _ _ (sym (b .before .before .command-at .ensures) ∙ b .byte2 .given .1) (sym (c .before .before .is-allowed2 .ensures) ∙ c .before .if2 .left)
+    ap dueOf (c .refuse5 .ensures) ∙ due-other _ _ _ _ _ (sym (b .before .before .command-at .ensures) ∙ b .byte .given .1) (sym (c .before .before .is-allowed2 .ensures) ∙ c .before .if2 .left)
 
 pub command-due-spec : {M : Type 1} → statement M
 command-due-spec =
@@ -78,11 +78,11 @@ command-due-spec =
     refuse-requires
     enum-told-2
     refuse-requires-2
-    enum-known-byte
+    enum-known-cut
     is-allowed-requires
     refuse-requires-3
     refuse-requires-4
-    enum-known-byte-2
+    enum-known-byte
     is-allowed-requires-2
     refuse-requires-5
     returns
