@@ -51,9 +51,15 @@ abbrev μ-entries : tie.MeasureT-entries
 
 -- ---- the places that several answers look back at
 
--- the function's entry, an entry of the list, an action at it, the search for what the action makes of it, and the end of the search
+-- the function's entry, the capacity known, an entry of the list, an action at it, the search for what the action makes of it, and the end of the search
 abbrev Entered : Type 0
 Entered = tie.Start Inv-search μ-search Inv-actions μ-actions Inv-entries μ-entries
+
+abbrev Measured : Type 0
+Measured = tie.After-capacity-of Inv-search μ-search Inv-actions μ-actions Inv-entries μ-entries
+
+abbrev entered-of : Measured → Entered
+entered-of c = c .before .before .before .before .before .before .before .before
 
 abbrev AtEntries : Type 0
 AtEntries = tie.At-entries Inv-search μ-search Inv-actions μ-actions Inv-entries μ-entries
@@ -155,28 +161,28 @@ capacity-of-requires c κs = tt
 
 returns : tie.Need-returns Inv-search μ-search Inv-actions μ-actions Inv-entries μ-entries
 returns c =
-    let s = c .before .before .before .before .before .before .before .before .before in
+    let s = entered-of (c .before) in
     let e = c .before .capacity-of .ensures in
     expands e (X.Full 0) (holds-none (lent s) e) (no-room _ _ _ (lent s) e (c .if1 .taken))
 
 slice-write-conditions : tie.Need-slice-write-conditions Inv-search μ-search Inv-actions μ-actions Inv-entries μ-entries
 slice-write-conditions c =
-    let H = holds-none (lent (c .before .before .before .before .before .before .before .before .before)) (c .before .capacity-of .ensures) in
+    let H = holds-none (lent (entered-of (c .before))) (c .before .capacity-of .ensures) in
     omega (arith, H .conditions .roomy, c .if1 .left)
 
 slice-write-actions : tie.Need-slice-write-actions Inv-search μ-search Inv-actions μ-actions Inv-entries μ-entries
 slice-write-actions c =
-    let H = holds-none (lent (c .before .before .before .before .before .before .before .before .before)) (c .before .capacity-of .ensures) in
+    let H = holds-none (lent (entered-of (c .before))) (c .before .capacity-of .ensures) in
     omega (arith, H .actions .roomy, c .if1 .left)
 
 slice-write-parents : tie.Need-slice-write-parents Inv-search μ-search Inv-actions μ-actions Inv-entries μ-entries
 slice-write-parents c =
-    let H = holds-none (lent (c .before .before .before .before .before .before .before .before .before)) (c .before .capacity-of .ensures) in
+    let H = holds-none (lent (entered-of (c .before))) (c .before .capacity-of .ensures) in
     omega (arith, H .parents .roomy, c .if1 .left)
 
 slice-write-depths : tie.Need-slice-write-depths Inv-search μ-search Inv-actions μ-actions Inv-entries μ-entries
 slice-write-depths c =
-    let H = holds-none (lent (c .before .before .before .before .before .before .before .before .before)) (c .before .capacity-of .ensures) in
+    let H = holds-none (lent (entered-of (c .before))) (c .before .capacity-of .ensures) in
     omega (arith, H .depths .roomy, c .if1 .left)
 
 ends-list-requires : tie.Need-ends-list-requires Inv-search μ-search Inv-actions μ-actions Inv-entries μ-entries

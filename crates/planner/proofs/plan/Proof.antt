@@ -55,8 +55,12 @@ Built = tie.After-slice-known10
 abbrev built-of : Built → tie.After-build
 built-of c = c .before .before .before .before .before .before .before .before .before .before
 
+-- the tables are lent on
+abbrev lending-of : tie.After-build-arg5 → Passed
+lending-of c = c .before .before .before .before .before .before
+
 abbrev passed-of : Built → Passed
-passed-of c = built-of c .before .before .before .before .before .before .before
+passed-of c = lending-of (built-of c .before)
 
 -- ---- the answers, in the order of the code
 
@@ -70,7 +74,7 @@ enum-known-header : tie.Need-enum-known-header
 enum-known-header c = search needs
 
 build-requires : tie.Need-build-requires
-build-requires c κs = header-is (c .before .before .before .before .before .before)
+build-requires c κs = header-is (lending-of c)
 
 enum-known-x-2 : tie.Need-enum-known-x-2
 enum-known-x-2 c = search needs

@@ -37,6 +37,10 @@ header-is c = ap tableReadOf (sym (c .header .given .1)) ∙ read-of c .read-tab
 table-of : (c : Sound) → (t : Table) × (accepted t ≡ readTable (start-of (read-of c) .args .table .now)) × (headerOf t ≡ c .header .given .0 .0)
 table-of c = headed-sound (readTable (start-of (read-of c) .args .table .now)) (header-is c)
 
+-- the tables are lent on
+abbrev lending-of : tie.After-build-arg5 → Sound
+lending-of c = c .before .before .before .before .before .before
+
 -- ---- the answers, in the order of the code
 
 read-table-requires : tie.Need-read-table-requires
@@ -49,7 +53,7 @@ enum-known-header : tie.Need-enum-known-header
 enum-known-header c = search needs
 
 build-requires : tie.Need-build-requires
-build-requires c κs = header-is (c .before .before .before .before .before .before)
+build-requires c κs = header-is (lending-of c)
 
 returns : tie.Need-returns
 returns c =
@@ -78,7 +82,7 @@ same-length-5 c = search needs
 returns-2 : tie.Need-returns-2
 returns-2 c =
     let b = c .before .before .before .before .before .before .before .before .before .before in
-    let h = b .before .before .before .before .before .before .before in
+    let h = lending-of (b .before) in
     let a = start-of (read-of h) .args in
     shift-kept (a .table .now) (bytes (read-of h)) _ _ _ _ _
     (rw (← shift-read (a .table .now) _ _ (table-of h .0) (table-of h .1)) (b .build .ensures (table-of h .0) (table-of h .1)))
