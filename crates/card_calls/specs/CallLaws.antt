@@ -1,19 +1,17 @@
 -- The calls on a job card, way by way: what each check leads to. Equations are turned so that a function's answers chain with them.
 -- Assumes nothing.
-use Prim.Native.Nat.{ℕ, _≤_, _<_}
-use mathlib.Core.Path.{_≡_, sym, ap, _∙_}
-use mathlib.Core.Bool.{true, false}
+use Prim.Native.Nat.{ℕ}
+use mathlib.Core.Path.{_≡_, sym, _∙_}
+use mathlib.Core.Bool.{true}
 use mathlib.Core.List.{List}
-use borrow.Author.Tests.{lt-ltb, le-ltb}
-use lib.ListN.{length, getD}
 use Rattle.refusal.specs.Checked.{accepted, refused, andThen}
 use Rattle.refusal.specs.CheckedLaws.{accepted-then, accepted-same}
 use Rattle.reading.specs.declared.Reading.{Reading}
 use Rattle.reading.specs.Reading.{sound, checkedAt}
-use Rattle.reading.specs.ReadingLaws.{checked-sound, checked-bad, checked-told}
-use Rattle.job.specs.Job.{noJob}
+use Rattle.reading.specs.ReadingLaws.{checked-told}
+use Rattle.job.specs.declared.Job.{Job}
 use Rattle.table.specs.Table.{Table}
-use Rattle.table.specs.Read.{readTable, jobsOf, namedJob}
+use Rattle.table.specs.Read.{readTable, namedJob}
 use Rattle.card.specs.declared.Card.{Card}
 use Rattle.card.specs.Card.{masksOf, newCard, withMasks, booked}
 use Rattle.card_calls.specs.declared.JobReport.{JobReport}
@@ -27,13 +25,13 @@ module _ (s : List ℕ) (place : ℕ) (r : Reading) where
   for-refused e = rw (← e)
 
   module _ (t : Table) (e : accepted t ≡ readTable s) where
-    pub for-sound : sound (t .facts) r ≡ true → accepted t ≡ tableFor s place r
+    pub for-sound : {q : Reading} → accepted q ≡ checkedAt (t .facts) place r → accepted t ≡ tableFor s place r
     unfolding tableFor
-    for-sound h = rw (← e, ← checked-sound (t .facts) r place h)
+    for-sound h = rw (← e, ← h)
 
-    pub for-bad : sound (t .facts) r ≡ false → refused 8 place ≡ tableFor s place r
+    pub for-bad : {n p : ℕ} → refused n p ≡ checkedAt (t .facts) place r → refused n p ≡ tableFor s place r
     unfolding tableFor
-    for-bad h = rw (← e, ← checked-bad (t .facts) r place h)
+    for-bad h = rw (← e, ← h)
 
   -- the table is the one that was read, and the reading is sound under it
   pub for-told : (t : Table) → accepted t ≡ tableFor s place r → (accepted t ≡ readTable s) × (sound (t .facts) r ≡ true)
@@ -42,10 +40,7 @@ module _ (s : List ℕ) (place : ℕ) (r : Reading) where
       let a = accepted-then (readTable s) (λ u. andThen (checkedAt (u .facts) place r) λ _. accepted u) t (sym e) in
       let b = accepted-then (checkedAt (a .0 .facts) place r) (λ _. accepted (a .0)) t (a .2) in
       let q : a .0 ≡ t = accepted-same (b .2) in
-      (sym (a .1 ∙ b .2), rw q at (checked-told (a .0 .facts) r place (b .0) (b .1)))
-
-  pub for-jobs : (t : Table) → accepted t ≡ tableFor s place r → jobsOf (readTable s) ≡ t .jobs
-  for-jobs t e = ap jobsOf (sym (for-told t e .0))
+      (sym (a .1 ∙ b .2), rw q at (checked-told (a .0 .facts) r place (b .0) (b .1) .0))
 
 -- ---- opening, and an outside reading
 
@@ -74,10 +69,10 @@ module _ (s : List ℕ) (x : JobReport) (c : Card) where
   report-refused e = rw (← e)
 
   module _ (t : Table) (e : accepted t ≡ tableFor s 0 (masksOf c)) where
-    pub report-no-job : length (t .jobs) ≤ x .job → refused 16 0 ≡ reported s x c
-    unfolding reported namedJob
-    report-no-job h = rw (← e, le-ltb (x .job) (length (t .jobs)) h)
+    pub report-no-job : {n p : ℕ} → refused n p ≡ namedJob t (x .job) 0 → refused n p ≡ reported s x c
+    unfolding reported
+    report-no-job h = rw (← e, ← h)
 
-    pub report-job : x .job < length (t .jobs) → booked (getD (jobsOf (readTable s)) (x .job) noJob) (x .taken) c ≡ reported s x c
-    unfolding reported namedJob
-    report-job h = rw (for-jobs s 0 (masksOf c) t e, ← e, lt-ltb (x .job) (length (t .jobs)) h)
+    pub report-job : {j : Job} → accepted j ≡ namedJob t (x .job) 0 → booked j (x .taken) c ≡ reported s x c
+    unfolding reported
+    report-job h = rw (← e, ← h)

@@ -24,13 +24,14 @@ use Rattle.table.specs.Table.{Table}
 use Rattle.table.specs.Read.{readTable, namedJob}
 use Rattle.job.specs.Validation.{SoundJob}
 use Rattle.job.specs.ValidationLaws.{action-within}
+use Rattle.table.specs.ReadLaws.{named-job}
 use Rattle.table.specs.RoundTripLaws.{read-sound}
 use Rattle.card.specs.declared.Card.{Card}
 use Rattle.card.specs.Card.{masksOf, withMasks, withReport, maxReports, maxListed, exhausted, Bounded, booked, answerDue}
 use Rattle.card.specs.CardLaws.{booked-missing, booked-exhausted, room, not-exhausted, planned-over, with-report-bounded}
 use Rattle.card_calls.specs.declared.JobReport.{JobReport}
 use Rattle.card_calls.specs.Calls.{tableFor, outsideRead, reported}
-use Rattle.card_calls.specs.CallLaws.{for-told, for-jobs, report-job}
+use Rattle.card_calls.specs.CallLaws.{for-told, report-job}
 
 -- ---- a report that was accepted
 
@@ -98,7 +99,7 @@ module _ (s : List ℕ) (x : JobReport) (c : Card) (t : Table) (e : accepted t �
   report-unread h n =
       let sound-masks = holds (sound (t .facts) (masksOf c)) (for-told s 0 (masksOf c) t e .1) in
       let missing = unread-inapplicable (actionOf (getD (t .jobs) (x .job) noJob)) (masksOf c) (t .facts) sound-masks n in
-      sym (booked-missing _ _ c missing ∙ rw (for-jobs s 0 (masksOf c) t e) at (report-job s x c t e h))
+      sym (booked-missing _ _ c missing ∙ report-job s x c t e (named-job t (x .job) 0 h))
 
   -- Where the sums are bounded and fewer than 65,535 reports were made, no report is 18.
   pub report-room : Bounded c → (c .reports ≡ maxReports → ⊥) → reported s x c ≡ refused 18 0 → ⊥
@@ -124,7 +125,7 @@ module _ (c : Card) (over : maxListed * c .reports < c .planned) where
   -- Its next report, of a job whose needs are held, is 18.
   pub older-exhausted : (s : List ℕ) (x : JobReport) (t : Table) → accepted t ≡ tableFor s 0 (masksOf c) → x .job < length (t .jobs)
       → applicable (actionOf (getD (t .jobs) (x .job) noJob)) (masksOf c) ≡ true → reported s x c ≡ refused 18 0
-  older-exhausted s x t e h n = sym (booked-exhausted _ _ c n (planned-over c over) ∙ rw (for-jobs s 0 (masksOf c) t e) at (report-job s x c t e h))
+  older-exhausted s x t e h n = sym (booked-exhausted _ _ c n (planned-over c over) ∙ report-job s x c t e (named-job t (x .job) 0 h))
 
 -- ---- an outside reading
 

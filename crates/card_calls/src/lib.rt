@@ -4,8 +4,8 @@
 use card::Card;
 use card::CardStep;
 use reading::Reading;
-use refusal::Reason;
-use refusal::Refusal;
+use reading::ReadingChecked;
+use table::JobRead;
 use table::TableRead;
 use tick::Ticked;
 ghost use mathlib.Core.Path.{_≡_};
@@ -27,13 +27,9 @@ fn table_for(table: &[u8], place: usize, reading: Reading) -> TableRead
     match table::read_table(table) {
         TableRead::Refused(x) => TableRead::Refused(x),
         TableRead::Sound(header) => {
-            if reading::is_sound(header.facts, reading) {
-                TableRead::Sound(header)
-            } else {
-                TableRead::Refused(Refusal {
-                    reason: Reason::BadReading,
-                    place,
-                })
+            match reading::check_reading(header.facts, place, reading) {
+                ReadingChecked::Refused(x) => TableRead::Refused(x),
+                ReadingChecked::Sound(_) => TableRead::Sound(header),
             }
         }
     }
@@ -67,21 +63,10 @@ pub fn reported(card: Card, table: &[u8], report: JobReport) -> CardStep
     let masks = card::masks_of(card);
     match table_for(table, 0, masks) {
         TableRead::Refused(x) => card::refuse(card, x),
-        TableRead::Sound(header) => {
-            let jobs = header.jobs;
-            let job = report.job;
-            if job < jobs {
-                card::book(card, table::job_at(table, job), report.taken)
-            } else {
-                card::refuse(
-                    card,
-                    Refusal {
-                        reason: Reason::NoSuchJob,
-                        place: 0,
-                    },
-                )
-            }
-        }
+        TableRead::Sound(header) => match table::named_job(table, header, report.job, 0) {
+            JobRead::Refused(x) => card::refuse(card, x),
+            JobRead::Named(job) => card::book(card, job, report.taken),
+        },
     }
 }
 

@@ -21,6 +21,7 @@ use Rattle.numbers.specs.Numbers.{toBytes, numberAt}
 use Rattle.numbers.specs.NumberLaws.{from-to, read-drop}
 use Rattle.reading.specs.declared.Reading.{Reading}
 use Rattle.reading.specs.Reading.{sound}
+use Rattle.reading.specs.ReadingLaws.{checked-sound}
 use Rattle.conditions.specs.Condition.{Condition}
 use Rattle.table.specs.Table.{Table}
 use Rattle.table.specs.Read.{readTable}
@@ -179,12 +180,12 @@ tree-read facts jobs [] f = absurd (omega (arith, f .some))
 tree-read facts jobs (x ∷ l) f = whole-read facts jobs x l f
 
 -- a tick on the tree of a list, under a table with so many facts and jobs
-pub tick-checked-read : (facts jobs : ℕ) (l : List (Entry Condition)) → Fits facts jobs l → (r : Reading) → sound facts r ≡ true
-    → tickChecked facts jobs (treeBytes l) r ≡ accepted (tickTree r (treeOf l))
+pub tick-checked-read : (facts jobs : ℕ) (l : List (Entry Condition)) → Fits facts jobs l → (place : ℕ) (r : Reading) → sound facts r ≡ true
+    → tickChecked facts jobs (treeBytes l) place r ≡ accepted (tickTree r (treeOf l))
 unfolding tickChecked
-tick-checked-read facts jobs l f r h = rw (h, tree-read facts jobs l f)
+tick-checked-read facts jobs l f place r h = rw (← checked-sound facts r place h, tree-read facts jobs l f)
 
 -- and from a table's bytes
 pub tick-read : (table : List ℕ) (t : Table) → readTable table ≡ accepted t → (l : List (Entry Condition)) → Fits (t .facts) (length (t .jobs)) l
     → (r : Reading) → sound (t .facts) r ≡ true → tickBytes table (treeBytes l) r ≡ accepted (tickTree r (treeOf l))
-tick-read table t e l f r h = bytes-read table (treeBytes l) t e r ∙ tick-checked-read (t .facts) (length (t .jobs)) l f r h
+tick-read table t e l f r h = bytes-read table (treeBytes l) t e r ∙ tick-checked-read (t .facts) (length (t .jobs)) l f 0 r h

@@ -8,7 +8,7 @@ use lib.ListN.{length}
 use Rattle.masks.specs.Sets.{subset, intersects, union, difference, within}
 use Rattle.commands.specs.Commands.{widthOf, commandAt}
 use Rattle.numbers.specs.Numbers.{fromBytes, toBytes, numberAt}
-use Rattle.reading.specs.Reading.{sound}
+use Rattle.reading.specs.Reading.{sound, checkedAt, checkedStart}
 use Rattle.conditions.specs.Condition.{weaker, satisfied, applied, relevant, regressed}
 use Rattle.conditions.specs.OnReading.{evaluated}
 use Rattle.job.specs.Job.{jobBytes, jobAt}
@@ -51,7 +51,7 @@ pub record Computed : Type 0 where
   pub prints-right : map (λ p. p .found) prints ≡ map (λ p. p .expected) prints
 
 pub computed : Computed
-unfolding planShift planFor startFor tablePlan expand expandFrom expandEntry listed weaker satisfied applied relevant regressed evaluated subset intersects union difference within sound nearest conditionBytes actionBytes firstBytes entryBytes laterEntries treeBytes widthOf commandAt fromBytes toBytes numberAt tableBytes jobsBytes jobBytes goalBytes Table.readTable Table.readJobs Table.readGoal Table.readEnd Table.due jobAt validatedJob tickBytes tickChecked tickBy Tree.wholeAt Tree.operandsOf Tree.nodeAt Tree.readRow Tree.readNode Tree.readTree Tree.readEnd readingsFrom programText filesPlan planText refusedText entriesText digits placesIn places
+unfolding planShift planFor startFor tablePlan expand expandFrom expandEntry listed weaker satisfied applied relevant regressed evaluated subset intersects union difference within sound checkedAt checkedStart nearest conditionBytes actionBytes firstBytes entryBytes laterEntries treeBytes widthOf commandAt fromBytes toBytes numberAt tableBytes jobsBytes jobBytes goalBytes Table.readTable Table.readJobs Table.readGoal Table.readEnd Table.due jobAt validatedJob tickBytes tickChecked tickBy Tree.wholeAt Tree.operandsOf Tree.nodeAt Tree.readRow Tree.readNode Tree.readTree Tree.readEnd readingsFrom programText filesPlan planText refusedText entriesText digits placesIn places
 computed =
     record {
       plans-right = refl;

@@ -2,12 +2,10 @@
 -- Definitions only.
 use Prim.Native.Nat.{ℕ, zero, _+_, _-_}
 use mathlib.Core.List.{List, [], _∷_}
-use lib.Dec.{eqb}
 use lib.ListN.{length, getD}
-use Rattle.base.specs.Bools.{if_then_else_}
-use Rattle.refusal.specs.Checked.{Checked, accepted, refused, refusedBy, andThen}
+use Rattle.refusal.specs.Checked.{Checked, accepted, refusedBy, andThen}
 use Rattle.reading.specs.declared.Reading.{Reading}
-use Rattle.reading.specs.Reading.{sound}
+use Rattle.reading.specs.Reading.{checkedStart}
 use Rattle.conditions.specs.Condition.{Condition}
 use Rattle.job.specs.declared.Job.{Job}
 use Rattle.job.specs.Job.{noJob}
@@ -46,11 +44,9 @@ summaryOf t l =
 
 -- ---- the plan
 
--- the table's own stops first; 8: "A reading .. share a fact or have a bit at or above F." 9: "A start for planning has an unread fact."
+-- the table's own stops first, then the start's, 8 and 9
 unfoldable pub startFor : List ℕ → Reading → Checked Table
-startFor table start =
-    andThen (readTable table) λ t.
-    if sound (t .facts) start then (if eqb (start .unread) 0 then accepted t else refused 9 0) else refused 8 0
+startFor table start = andThen (readTable table) λ t. andThen (checkedStart (t .facts) start) λ r. accepted t
 
 -- a table's bytes and a start, with room for so many entries and so many bytes of a tree
 unfoldable pub planFor : List ℕ → Reading → ℕ → ℕ → Plan Summary

@@ -3,15 +3,12 @@
 use Prim.Native.Nat.{ℕ, suc, _-_, _≤_, _<_}
 use native.Mathlib.Omega.{arith}
 use mathlib.Core.Path.{_≡_, refl, sym, ap, _∙_}
-use mathlib.Core.Bool.{true, false}
 use mathlib.Core.List.{List}
-use lib.Dec.{eqb}
 use lib.ListN.{length, getD}
-use borrow.Author.Tests.{eq-eqb, ne-eqb}
 use Rattle.refusal.specs.Checked.{Checked, accepted, refused}
-use Rattle.refusal.specs.CheckedLaws.{not-both, accepted-same, accepted-then, accepted-if}
+use Rattle.refusal.specs.CheckedLaws.{not-both, accepted-same, accepted-then}
 use Rattle.reading.specs.declared.Reading.{Reading}
-use Rattle.reading.specs.Reading.{sound}
+use Rattle.reading.specs.Reading.{checkedStart}
 use Rattle.conditions.specs.Condition.{Condition}
 use Rattle.table.specs.declared.Header.{Header}
 use Rattle.table.specs.Table.{Table}
@@ -43,27 +40,20 @@ module _ (table : List ℕ) (start : Reading) where
   start-refused n p e = rw (← e)
 
   module _ (t : Table) (e : accepted t ≡ readTable table) where
-    pub start-unsound : sound (t .facts) start ≡ false → refused 8 0 ≡ startFor table start
+    pub start-bad : {n p : ℕ} → refused n p ≡ checkedStart (t .facts) start → refused n p ≡ startFor table start
     unfolding startFor
-    start-unsound s = rw (← e, s)
+    start-bad s = rw (← e, ← s)
 
-    module _ (s : sound (t .facts) start ≡ true) where
-      pub start-unread : (start .unread ≡ 0 → ⊥) → refused 9 0 ≡ startFor table start
-      unfolding startFor
-      start-unread u = rw (← e, s, ne-eqb (start .unread) 0 u)
-
-      pub start-read : start .unread ≡ 0 → accepted t ≡ startFor table start
-      unfolding startFor
-      start-read u = rw (← e, s, eq-eqb (start .unread) 0 u)
+    pub start-passed : {r : Reading} → accepted r ≡ checkedStart (t .facts) start → accepted t ≡ startFor table start
+    unfolding startFor
+    start-passed s = rw (← e, ← s)
 
   -- a start that passed leaves the table as it was read
   pub start-table : (t : Table) → startFor table start ≡ accepted t → readTable table ≡ accepted t
   unfolding startFor
   start-table t e =
       let w = accepted-then (readTable table) _ t e in
-      let s = accepted-if (sound (w .0 .facts) start) _ 8 0 t (w .2) in
-      let u = accepted-if (eqb (start .unread) 0) (accepted (w .0)) 9 0 t (s .1) in
-      w .1 ∙ u .1
+      w .1 ∙ accepted-then (checkedStart (w .0 .facts) start) (λ r. accepted (w .0)) t (w .2) .2
 
   module _ (capacity size : ℕ) where
     pub plan-refused : (n p : ℕ) → refused n p ≡ startFor table start → noPlan n p ≡ planFor table start capacity size

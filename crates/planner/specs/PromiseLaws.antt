@@ -4,17 +4,15 @@ use Prim.Native.Nat.{ℕ, suc, _≤_}
 use native.Mathlib.Nat.{not-suc-le-zero}
 use native.Mathlib.Omega.{arith}
 use mathlib.Core.Path.{_≡_, refl, sym, ap, _∙_, subst}
-use mathlib.Core.Bool.{Bool, true, false}
+use mathlib.Core.Bool.{true}
 use mathlib.Core.List.{List, []}
 use mathlib.Core.Logic.{_⊎_, ⊎-elim, inl, inr}
-use lib.Dec.{eqb}
 use lib.ListN.{length}
-use borrow.Author.Tests.{eq-eqb}
-use Rattle.base.specs.Bools.{if_then_else_}
 use Rattle.refusal.specs.Checked.{Checked, accepted, refused, andThen}
 use Rattle.refusal.specs.CheckedLaws.{not-both, accepted-same}
 use Rattle.reading.specs.declared.Reading.{Reading}
 use Rattle.reading.specs.Reading.{sound}
+use Rattle.reading.specs.ReadingLaws.{start-cases, start-sound}
 use Rattle.conditions.specs.Condition.{Condition}
 use Rattle.numbers.specs.Numbers.{AreBytes}
 use Rattle.table.specs.Table.{Table}
@@ -47,18 +45,13 @@ module _ (table : List ℕ) (b : AreBytes table) (t : Table) (e : readTable tabl
   -- what holds of the plan of a start that was checked holds of every plan, where it holds of none
   by-checks : (P : Plan Summary → Type 0) → P (noPlan 8 0) → P (noPlan 9 0) → P whole → P (planFor table start capacity size)
   unfolding planFor startFor tablePlan
-  by-checks P a b w = rw e (split (sound (t .facts) start) (eqb (start .unread) 0))
-    where
-      split : (sounds reads : Bool)
-          → P (afterChecks (if sounds then (if reads then accepted t else refused 9 0) else refused 8 0) λ t.
-          planBy (Covers (start .held)) size (summaryOf t) (startPlan (tableActions t) (t .goal) capacity (start .held)))
-      split true true = w
-      split true false = b
-      split false reads = a
+  by-checks P bad unread w =
+      rw e (start-cases (t .facts) start (λ c. P (afterChecks (andThen c λ r. accepted t) λ t.
+      planBy (Covers (start .held)) size (summaryOf t) (startPlan (tableActions t) (t .goal) capacity (start .held)))) bad unread w)
 
   checked : sound (t .facts) start ≡ true → start .unread ≡ 0 → planFor table start capacity size ≡ whole
   unfolding planFor startFor tablePlan
-  checked s u = rw (e, s, eq-eqb (start .unread) 0 u)
+  checked s u = rw (e, ← start-sound (t .facts) start s u)
 
   works : (p : Summary) → whole .answer ≡ accepted p → FewestJobs t table (whole .list) (whole .tree)
   works p a =

@@ -4,7 +4,7 @@ use builder::Built;
 use builder::Size;
 use expander::Until;
 use reading::Reading;
-use refusal::Reason;
+use reading::ReadingChecked;
 use refusal::Refusal;
 use table::Header;
 use table::TableRead;
@@ -33,28 +33,16 @@ pub enum Planned {
     Refused(Refusal),
 }
 
-fn refused(reason: Reason) -> TableRead
-    ensures { λ r. ⌜ r ≡ TableRead.Refused (record { reason = reason; place = 0 }) ⌝ }
-{
-    TableRead::Refused(Refusal { reason, place: 0 })
-}
-
 // The table, and the start under it.
 fn start_for(table: &[u8], start: Reading) -> TableRead
     ensures { λ r. ⌜ tableReadOf r ≡ headed (startFor (now (table .entry)) start) ⌝ }
 {
-    let read = table::read_table(table);
-    match read {
+    match table::read_table(table) {
         TableRead::Refused(x) => TableRead::Refused(x),
-        TableRead::Sound(header) => {
-            if !reading::is_sound(header.facts, start) {
-                return refused(Reason::BadReading);
-            }
-            if start.unread != 0 {
-                return refused(Reason::StartUnread);
-            }
-            read
-        }
+        TableRead::Sound(header) => match reading::check_start(header.facts, start) {
+            ReadingChecked::Refused(x) => TableRead::Refused(x),
+            ReadingChecked::Sound(_) => TableRead::Sound(header),
+        },
     }
 }
 

@@ -13,7 +13,8 @@ use Rattle.masks.specs.Sets.{intersects, within}
 use Rattle.refusal.specs.Checked.{Checked, accepted, refused, andThen}
 use Rattle.refusal.specs.CheckedLaws.{not-both}
 use Rattle.reading.specs.declared.Reading.{Reading}
-use Rattle.reading.specs.Reading.{sound}
+use Rattle.reading.specs.Reading.{sound, checkedStart}
+use Rattle.reading.specs.ReadingLaws.{start-unsound}
 use Rattle.table.specs.Table.{Table}
 use Rattle.table.specs.Read.{readTable}
 use Rattle.conditions.specs.Condition.{satisfied}
@@ -55,10 +56,10 @@ unfolding planFor startFor
 plan-unsound table r h capacity room = by (readTable table)
   where
     by : (c : Checked Table)
-        → afterChecks (andThen c λ t. if sound (t .facts) r then (if eqb (r .unread) 0 then accepted t else refused 9 0) else refused 8 0)
+        → afterChecks (andThen c λ t. andThen (checkedStart (t .facts) r) λ s. accepted t)
         (λ t. tablePlan (Covers (r .held)) t capacity room (summaryOf t))
         ≡ afterChecks c (λ t. noPlan 8 0)
-    by (accepted t) = rw (h (t .facts))
+    by (accepted t) = rw (← start-unsound (t .facts) r (h (t .facts)))
     by (refused n p) = refl
 
 -- ---- a plan that is built: how many entries it lists

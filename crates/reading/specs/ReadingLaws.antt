@@ -3,16 +3,17 @@
 use Prim.Native.Nat.{ℕ}
 use native.Mathlib.Omega.{arith}
 use mathlib.Core.Path.{_≡_}
-use mathlib.Core.Bool.{true, false, not}
-use lib.Dec.{T}
-use Rattle.base.specs.Bools.{and-intro, and-left, and-right}
-use Rattle.refusal.specs.Checked.{accepted, refused}
-use Rattle.refusal.specs.CheckedLaws.{accepted-if}
+use mathlib.Core.Bool.{Bool, true, false, not}
+use lib.Dec.{T, eqb}
+use borrow.Author.Tests.{eq-eqb, ne-eqb}
+use Rattle.base.specs.Bools.{if_then_else_, and-intro, and-left, and-right}
+use Rattle.refusal.specs.Checked.{Checked, accepted, refused, andThen}
+use Rattle.refusal.specs.CheckedLaws.{accepted-if, accepted-same}
 use Rattle.masks.specs.Sets.{intersects, union, within}
 use Rattle.masks.specs.Bits.{bit-le, bit-union, bit-empty, subset-bits, bits-subset, bits-disjoint}
 use Rattle.masks.specs.Laws.{subset-refl, subset-antisym, subset-union-left, within-subset, within-union, within-empty}
 use Rattle.reading.specs.declared.Reading.{Reading}
-use Rattle.reading.specs.Reading.{sound, checkedAt, Completes, state}
+use Rattle.reading.specs.Reading.{sound, checkedAt, checkedStart, Completes, state}
 
 module _ (f : ℕ) (r : Reading) where
   pub sound-held : T (sound f r) → T (within f (r .held))
@@ -37,9 +38,35 @@ module _ (f : ℕ) (r : Reading) where
     unfolding checkedAt
     checked-bad e = rw e
 
-    pub checked-told : (s : Reading) → checkedAt f place r ≡ accepted s → sound f r ≡ true
+    pub checked-told : (s : Reading) → checkedAt f place r ≡ accepted s → (sound f r ≡ true) × (r ≡ s)
     unfolding checkedAt
-    checked-told s e = accepted-if (sound f r) (accepted r) 8 place s e .0
+    checked-told s e = let (h, same) = accepted-if (sound f r) (accepted r) 8 place s e in (h, accepted-same same)
+
+  -- a start for planning: what holds of both refusals and of the start itself holds of its check
+  pub start-cases : (P : Checked Reading → Type 0) → P (refused 8 0) → P (refused 9 0) → P (accepted r) → P (checkedStart f r)
+  unfolding checkedStart checkedAt
+  start-cases P bad unread whole = by-sound (sound f r)
+    where
+      by-unread : (b : Bool) → P (if b then accepted r else refused 9 0)
+      by-unread true = whole
+      by-unread false = unread
+
+      by-sound : (b : Bool) → P (andThen (if b then accepted r else refused 8 0) λ s. if eqb (s .unread) 0 then accepted s else refused 9 0)
+      by-sound true = by-unread (eqb (r .unread) 0)
+      by-sound false = bad
+
+  pub start-unsound : sound f r ≡ false → refused 8 0 ≡ checkedStart f r
+  unfolding checkedStart
+  start-unsound e = rw (← checked-bad 0 e)
+
+  module _ (e : sound f r ≡ true) where
+    pub start-unread : (r .unread ≡ 0 → ⊥) → refused 9 0 ≡ checkedStart f r
+    unfolding checkedStart
+    start-unread u = rw (← checked-sound 0 e, ne-eqb (r .unread) 0 u)
+
+    pub start-sound : r .unread ≡ 0 → accepted r ≡ checkedStart f r
+    unfolding checkedStart
+    start-sound u = rw (← checked-sound 0 e, eq-eqb (r .unread) 0 u)
 
   -- a completed reading is a state
   pub completes-within : T (sound f r) → (s : ℕ) → Completes r s → T (within f s)

@@ -183,7 +183,7 @@ pub fn read_table(s: &[u8]) -> TableRead
 }
 
 // A job of a sound table: jobs are walked from the first on, since each stands past the one before.
-pub fn job_at(table: &[u8], index: usize) -> Job
+fn job_at(table: &[u8], index: usize) -> Job
     requires { ⌜ index < length (jobsOf (readTable (now table))) ⌝ }
     ensures { λ r. ⌜ r ≡ getD (jobsOf (readTable (now (table .entry)))) index noJob ⌝ }
 {

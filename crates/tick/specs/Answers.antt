@@ -44,6 +44,6 @@ pub record AnswersBy (tick : Reading → Checked Verdict) (r : Reading) (ticked 
 abbrev pub Answers : List ℕ → List ℕ → Reading → Ticked → Type 0
 Answers table tree = AnswersBy (tickBytes table tree)
 
--- under a table that was read, with what its header tells of it
-abbrev pub AnswersUnder : Header → List ℕ → Reading → Ticked → Type 0
-AnswersUnder header tree = AnswersBy (tickChecked (header .facts) (header .jobs) tree)
+-- under a table that was read, with what its header tells of it, and a place for 8
+abbrev pub AnswersUnder : Header → List ℕ → ℕ → Reading → Ticked → Type 0
+AnswersUnder header tree place = AnswersBy (tickChecked (header .facts) (header .jobs) tree place)

@@ -10,7 +10,7 @@ use Rattle.refusal.specs.Checked.{Checked, accepted, refused, andThen}
 use Rattle.refusal.specs.CheckedLaws.{not-both, accepted-same}
 use Rattle.commands.specs.Commands.{Past}
 use Rattle.reading.specs.declared.Reading.{Reading}
-use Rattle.reading.specs.Reading.{sound, Completes, state}
+use Rattle.reading.specs.Reading.{checkedAt, Completes, state}
 use Rattle.table.specs.declared.Header.{Header}
 use Rattle.table.specs.Read.{readTable, headed}
 use Rattle.tree.specs.declared.Status.{Status}
@@ -69,16 +69,17 @@ module _ (s : List ℕ) (facts jobs : ℕ) (f : Tree → Status) where
 
 -- ---- the reading, then the tree
 
-module _ (facts jobs : ℕ) (tree : List ℕ) (r : Reading) where
-  pub checked-unsound : sound facts r ≡ false → refused 8 0 ≡ answered (tickChecked facts jobs tree r)
+module _ (facts jobs : ℕ) (tree : List ℕ) (place : ℕ) (r : Reading) where
+  pub tick-refused : (n p : ℕ) → refused n p ≡ checkedAt facts place r → refused n p ≡ answered (tickChecked facts jobs tree place r)
   unfolding tickChecked
-  checked-unsound e = rw e
+  tick-refused n p e = rw (← e)
 
-  pub checked-sound : sound facts r ≡ true → answeredBy (λ t. tickTree r t .answer) (readTree tree facts jobs) ≡ answered (tickChecked facts jobs tree r)
+  pub tick-passed : (s : Reading) → accepted s ≡ checkedAt facts place r
+      → answeredBy (λ t. tickTree s t .answer) (readTree tree facts jobs) ≡ answered (tickChecked facts jobs tree place r)
   unfolding tickChecked
-  checked-sound e = rw e (by-tree (readTree tree facts jobs))
+  tick-passed s e = rw (← e) (by-tree (readTree tree facts jobs))
     where
-      by-tree : (x : Checked Tree) → answeredBy (λ t. tickTree r t .answer) x ≡ answered (andThen x λ t. accepted (tickTree r t))
+      by-tree : (x : Checked Tree) → answeredBy (λ t. tickTree s t .answer) x ≡ answered (andThen x λ t. accepted (tickTree s t))
       by-tree (accepted t) = refl
       by-tree (refused n p) = refl
 
@@ -96,8 +97,8 @@ module _ (tick : Reading → Checked Verdict) (r : Reading)
       by-verdict (refused n p) e a q h = absurd (not-both (sym q))
 
 module _ (tree : List ℕ) (r : Reading) (ticked : Ticked) where
-  pub answers-under : (h : Header) → tickedOf ticked ≡ answered (tickChecked (h .facts) (h .jobs) tree r) → AnswersUnder h tree r ticked
-  answers-under h e = answers-by (tickChecked (h .facts) (h .jobs) tree) r (settled-checked (h .facts) (h .jobs) tree r) ticked e
+  pub answers-under : (h : Header) (place : ℕ) → tickedOf ticked ≡ answered (tickChecked (h .facts) (h .jobs) tree place r) → AnswersUnder h tree place r ticked
+  answers-under h place e = answers-by (tickChecked (h .facts) (h .jobs) tree place) r (settled-checked (h .facts) (h .jobs) tree place r) ticked e
 
   module _ (table : List ℕ) where
     pub answers-refused : (n p : ℕ) → refused n p ≡ headed (readTable table) → tickedOf ticked ≡ refused n p → Answers table tree r ticked
@@ -105,6 +106,6 @@ module _ (tree : List ℕ) (r : Reading) (ticked : Ticked) where
         answers-by (tickBytes table tree) r (settled-bytes table tree r) ticked (e ∙ ap answered (bytes-refused table tree n p q r))
 
     -- what holds under a table that was read holds from its bytes
-    pub answers-read : (h : Header) → accepted h ≡ headed (readTable table) → AnswersUnder h tree r ticked → Answers table tree r ticked
+    pub answers-read : (h : Header) → accepted h ≡ headed (readTable table) → AnswersUnder h tree 0 r ticked → Answers table tree r ticked
     answers-read h q a =
         answers-by (tickBytes table tree) r (settled-bytes table tree r) ticked (a .answer ∙ ap answered (bytes-checked table tree h q r))

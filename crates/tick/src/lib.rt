@@ -1,6 +1,7 @@
 // The tick of a tree's bytes on a reading: the walk over its nodes, then END, and the answer (document 01, "Ticking" and "Stops, in checking order").
 use commands::Found;
 use reading::Reading;
+use reading::ReadingChecked;
 use refusal::Reason;
 use refusal::Refusal;
 use table::Header;
@@ -76,23 +77,23 @@ fn tick_tree(tree: &[u8], context: Context) -> Ticked
     }
 }
 
-// Ticks a tree on a reading, under a table that was read: any bytes.
-pub fn tick_checked(header: Header, tree: &[u8], reading: Reading) -> Ticked
-    ensures { λ r. ⌜ AnswersUnder header (now (tree .entry)) reading r ⌝ }
+// Ticks a tree on a reading, under a table that was read: any bytes, any reading; a bad one is refused with the place.
+pub fn tick_checked(header: Header, tree: &[u8], place: usize, reading: Reading) -> Ticked
+    ensures { λ r. ⌜ AnswersUnder header (now (tree .entry)) place reading r ⌝ }
 {
     let facts = header.facts;
     let jobs = header.jobs;
-    if !reading::is_sound(facts, reading) {
-        return refused(Reason::BadReading, 0);
+    match reading::check_reading(facts, place, reading) {
+        ReadingChecked::Refused(x) => Ticked::Refused(x),
+        ReadingChecked::Sound(reading) => tick_tree(
+            tree,
+            Context {
+                facts,
+                jobs,
+                reading,
+            },
+        ),
     }
-    tick_tree(
-        tree,
-        Context {
-            facts,
-            jobs,
-            reading,
-        },
-    )
 }
 
 // Ticks a tree on a reading: any bytes.
@@ -101,6 +102,6 @@ pub fn tick(table: &[u8], tree: &[u8], reading: Reading) -> Ticked
 {
     match table::read_table(table) {
         TableRead::Refused(x) => Ticked::Refused(x),
-        TableRead::Sound(header) => tick_checked(header, tree, reading),
+        TableRead::Sound(header) => tick_checked(header, tree, 0, reading),
     }
 }

@@ -7,7 +7,7 @@ use Rattle.refusal.specs.Checked.{accepted, refused}
 use Rattle.commands.specs.Commands.{FACTS, GOAL, END-OF-TABLE, FALLBACK, SEQUENCE, CONDITION, JOB-LEAF, END-OF-TREE, MASK-WIDTH, widthOf, commandAt}
 use Rattle.numbers.specs.Numbers.{fromBytes, toBytes, numberAt}
 use Rattle.reading.specs.declared.Reading.{Reading}
-use Rattle.reading.specs.Reading.{sound}
+use Rattle.reading.specs.Reading.{sound, checkedAt}
 use Rattle.table.specs.Read.{due, readEnd, readGoal, readJobs, readTable}
 use Rattle.tree.specs.declared.Status.the-variants.{Running}
 use Rattle.tree.specs.ReadTree.{countWidth, wholeAt, operandsOf, nodeAt, readRow, readNode, readTree, readEnd as readTreeEnd}
@@ -32,7 +32,7 @@ abbrev empty : Reading
 empty = record { held = 0; unread = 0 }
 
 -- each tree, and the stop that it meets first, for five facts and five jobs
-pub stops : map (λ s. tickChecked 5 5 s empty) (
+pub stops : map (λ s. tickChecked 5 5 s 0 empty) (
     []
     ∷ does 4
     ∷ (does 4 ++ (END-OF-TREE ∷ 0 ∷ []))
@@ -53,7 +53,7 @@ pub stops : map (λ s. tickChecked 5 5 s empty) (
     )
     ≡ refused 13 0 ∷ refused 13 2 ∷ refused 13 3 ∷ refused 15 0 ∷ refused 15 0 ∷ refused 13 0 ∷ refused 13 0 ∷ refused 15 5 ∷ refused 13 5 ∷ refused 15 3
     ∷ refused 13 48 ∷ refused 14 48 ∷ accepted (record { answer = Running 4; leaf = 45 }) ∷ []
-unfolding tickChecked commandAt widthOf numberAt fromBytes toBytes sound intersects within wholeAt operandsOf nodeAt readRow readNode readTree readTreeEnd tickBy
+unfolding tickChecked commandAt widthOf numberAt fromBytes toBytes checkedAt sound intersects within wholeAt operandsOf nodeAt readRow readNode readTree readTreeEnd tickBy
 stops = refl
 
 -- one fact, no job, an empty goal
@@ -65,5 +65,5 @@ unsound = record { held = 2; unread = 0 }
 
 -- the table first, then the reading, then the tree
 pub order : (tickBytes [] [] unsound ≡ refused 1 0) × (tickBytes table [] unsound ≡ refused 8 0) × (tickBytes table [] empty ≡ refused 13 0)
-unfolding tickBytes tickChecked readTable readJobs readGoal readEnd due commandAt widthOf numberAt fromBytes toBytes sound intersects within wholeAt nodeAt readNode readTree
+unfolding tickBytes tickChecked readTable readJobs readGoal readEnd due commandAt widthOf numberAt fromBytes toBytes checkedAt sound intersects within wholeAt nodeAt readNode readTree
 order = (refl, refl, refl)

@@ -5,24 +5,22 @@ use mathlib.Core.Path.{_≡_}
 use mathlib.Core.Bool.{Bool, true, false}
 use mathlib.Core.List.{List}
 use lib.ListN.{length}
-use Rattle.base.specs.Bools.{if_then_else_}
-use Rattle.refusal.specs.Checked.{Checked, accepted, refused, andThen}
+use Rattle.refusal.specs.Checked.{Checked, accepted, andThen}
 use Rattle.reading.specs.declared.Reading.{Reading}
-use Rattle.reading.specs.Reading.{sound, Completes, state}
+use Rattle.reading.specs.Reading.{checkedAt, Completes, state}
 use Rattle.table.specs.Read.{readTable}
 use Rattle.tree.specs.declared.Status.{Status}
 use Rattle.tree.specs.declared.Status.the-variants.{Success, Failure, Running, Unsettled}
 use Rattle.tree.specs.ReadTree.{readTree}
 use Rattle.tree.specs.Tick.{Verdict, tickTree}
 
--- a tree's bytes and a reading, for a table with so many facts and jobs; 8: "A reading .. share a fact or have a bit at or above F."
-unfoldable pub tickChecked : ℕ → ℕ → List ℕ → Reading → Checked Verdict
-tickChecked facts jobs tree r =
-    if sound facts r then andThen (readTree tree facts jobs) (λ t. accepted (tickTree r t)) else refused 8 0
+-- a tree's bytes and a reading, for a table with so many facts and jobs; the place of 8 is its caller's
+unfoldable pub tickChecked : (facts jobs : ℕ) → List ℕ → (place : ℕ) → Reading → Checked Verdict
+tickChecked facts jobs tree place r = andThen (checkedAt facts place r) λ s. andThen (readTree tree facts jobs) λ t. accepted (tickTree s t)
 
--- the table's own stops first, then the reading (8), then the tree (13 to 15), to its last byte; then the tick
+-- the table's own stops first, then the reading (8, with place 0), then the tree (13 to 15), to its last byte; then the tick
 unfoldable pub tickBytes : List ℕ → List ℕ → Reading → Checked Verdict
-tickBytes table tree r = andThen (readTable table) λ t. tickChecked (t .facts) (length (t .jobs)) tree r
+tickBytes table tree r = andThen (readTable table) λ t. tickChecked (t .facts) (length (t .jobs)) tree 0 r
 
 abbrev pub answered : Checked Verdict → Checked Status
 answered r = andThen r λ v. accepted (v .answer)
