@@ -144,12 +144,13 @@ module _ (conditions actions : List ℕ) where
       → Puts (entryBytes (getD conditions i 0) (getD actions i 0)) next between after past → Puts (laterEntries (later (i + 1))) at before after past
   later-put {i} h p q = rw (later-grown i h) (puts-then p q)
 
-  -- and it has room, where all have
-  pub later-room : (i n : ℕ) → 1 ≤ i → i < n → length (laterEntries (later i)) + length (entryBytes (getD conditions i 0) (getD actions i 0)) ≤ length (laterEntries (later n))
-  later-room i zero h l = absurd (omega arith)
-  later-room i (suc n) h l = elim (decLe (suc i) n) [
-    | yes k ↦ omega (arith, later-room i n h k, grown n (omega arith))
-    | no k ↦ let same : n ≡ i = omega arith in rw same (omega (arith, grown i h))
+  -- and it has room, where all have, whichever its action
+  pub later-room : (i n action : ℕ) → 1 ≤ i → i < n → length (laterEntries (later i)) + length (entryBytes (getD conditions i 0) action) ≤ length (laterEntries (later n))
+  later-room i zero action h l = absurd (omega arith)
+  later-room i (suc n) action h l = elim (decLe (suc i) n) [
+    | yes k ↦ omega (arith, later-room i n action h k, grown n (omega arith))
+    | no k ↦ let same : n ≡ i = omega arith in
+        rw same (omega (arith, grown i h, entry-size (getD conditions i 0) action, entry-size (getD conditions i 0) (getD actions i 0)))
   ]
     where
       grown : (i : ℕ) → 1 ≤ i → length (laterEntries (later (suc i))) ≡ length (laterEntries (later i)) + length (entryBytes (getD conditions i 0) (getD actions i 0))

@@ -1,11 +1,11 @@
 -- `flat::put_entries` meets its contract. The loop's invariant: the entries passed are put, one after the other. The measure is the number of
 -- entries left.
 -- Assumes nothing.
-use Rattle.flat.specs.TreeBytes.{laterEntries, treeEntries, Puts}
+use Rattle.flat.specs.TreeBytes.{entryBytes, laterEntries, treeEntries, Puts}
 use Rattle.flat.specs.TreeBytesLaws.{later-none, later-put, later-room}
 use mathlib.Core.Path.{_≡_}
-use Prim.Native.Nat.{_-_, _≤_}
-use lib.ListN.{length, drop}
+use Prim.Native.Nat.{ℕ, _+_, _-_, _≤_, _<_}
+use lib.ListN.{length, getD, drop}
 use borrow.Author.Needs.{needs}
 use native.Mathlib.Omega.{arith}
 use Rattle.flat.proofs.put_entries.Statement.{statement}
@@ -25,6 +25,19 @@ AtLoop = tie.At-loop Inv-loop μ-loop
 abbrev start-of : AtLoop → tie.Start Inv-loop μ-loop
 start-of c = c .before .before .before .before
 
+-- the entry has room, whichever its action
+room : (c : AtLoop) → c .loop .i < start-of c .args .n → (action : ℕ)
+    → c .loop .at + length (entryBytes (getD (start-of c .args .conditions .now) (c .loop .i) 0) action) ≤ length (c .loop .tree)
+room c more action =
+    let a = start-of c .args in
+    omega (
+      arith,
+      start-of c .pre,
+      c .loop .inv .0,
+      c .loop .inv .1 .past,
+      later-room (a .conditions .now) (a .actions .now) (c .loop .i) (a .n) action (c .loop .inv .0 .0) more,
+    )
+
 loop-holds : tie.Need-loop-holds Inv-loop μ-loop
 loop-holds c =
     let a = c .before .before .before .args in
@@ -40,16 +53,7 @@ shared-slice-read-put-later-2 : tie.Need-shared-slice-read-put-later-2 Inv-loop 
 shared-slice-read-put-later-2 c = search needs
 
 put-later-requires : tie.Need-put-later-requires Inv-loop μ-loop
-put-later-requires c κs =
-    let l = c .before .before .before .before in
-    let s = start-of l in
-    omega (
-      arith,
-      s .pre,
-      l .loop .inv .0,
-      l .loop .inv .1 .past,
-      later-room (s .args .conditions .now) (s .args .actions .now) (l .loop .i) (s .args .n) (l .loop .inv .0 .0) (c .before .before .before .loop-test .taken),
-    )
+put-later-requires c κs = room (c .before .before .before .before) (c .before .before .before .loop-test .taken) _
 
 add-i : tie.Need-add-i Inv-loop μ-loop
 add-i c = search needs
