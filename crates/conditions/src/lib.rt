@@ -2,8 +2,10 @@
 // the table looks into an action or a condition. An action is document 01's job, without its seconds.
 use reading::Reading;
 ghost use mathlib.Core.Path.{_≡_};
-ghost use lib.ListN.{getD};
+ghost use Prim.Native.Nat.{_≤_};
+ghost use lib.ListN.{length, getD};
 ghost use Rattle.conditions.specs.Condition.{weaker, satisfied, relevant, regressed, actionAt};
+ghost use Rattle.conditions.specs.Search.{Searches};
 ghost use Rattle.conditions.specs.OnReading.{evaluated, applicable, finished};
 
 // The facts that the action needs, adds and deletes.
@@ -42,6 +44,30 @@ pub fn is_weaker(c: u64, d: u64) -> bool
     ensures { λ r. ⌜ r ≡ weaker c d ⌝ }
 {
     masks::is_subset(c, d)
+}
+
+// Where the search for a listed part of a condition ended: at an entry of the list, or at none.
+pub enum Found {
+    At(usize),
+    Nowhere,
+}
+
+// The newest of the first n listed conditions that is a part of `c` (document 02, W6).
+pub fn newest_weaker(listed: &[u64], n: usize, c: u64) -> Found
+    requires { ⌜ n ≤ length (now listed) ⌝ }
+    ensures { λ r. ⌜ Searches (now (listed .entry)) n c r ⌝ }
+{
+    let mut k = n;
+    'search: loop {
+        if k == 0 {
+            break Found::Nowhere;
+        }
+        k -= 1;
+        let entry = listed[k];
+        if is_weaker(entry, c) {
+            break Found::At(k);
+        }
+    }
 }
 
 // Does the state meet the condition?

@@ -1,27 +1,28 @@
--- The three loops of the expansion: what holds at the head of each, and why a turn keeps it. What the definition still has to do, from where a
+-- The two loops of the expansion: what holds at the head of each, and why a turn keeps it. What the definition still has to do, from where a
 -- loop stands, gives the outcome of the whole.
 -- Assumes nothing.
 use mathlib.Core.Path.{_≡_, refl, sym, ap, _∙_}
-use mathlib.Core.Bool.{Bool, true, false, not, _&&_}
+use mathlib.Core.Bool.{Bool, not, _&&_}
 use mathlib.Core.List.{List, [], _∷_, _++_}
 use Prim.Native.Nat.{ℕ, _+_, _≤_, _<_}
 use native.Mathlib.Omega.{arith}
 use native.Mathlib.Numerals.{add-one}
-use borrow.Author.Count.{below-more}
 use lib.Dec.{T, T-not, not-T, ltb, lt→ltb}
 use lib.ListN.{length, getD}
 use lib.Seq.{getD-set-other}
 use Rattle.base.specs.Bools.{and-intro, and-right}
-use Rattle.conditions.specs.Condition.{Condition, weaker, relevant, regressed}
+use Rattle.conditions.specs.declared.Found.the-variants.{Nowhere}
+use Rattle.conditions.specs.Condition.{Condition, relevant, regressed}
+use Rattle.conditions.specs.Search.{newestWeaker}
 use Rattle.planning.specs.Domain.{Domain}
 use Rattle.planning.specs.Expansion.{Entry, exhausted, covered, full, root, entryIn, newCondition, newEntry, wanted, remainingFrom, remainingAt}
 use Rattle.planning.specs.ExpansionSteps.{start-full, start-covered, start-going, enter-entry, leave-entry, last-entry, skip-action, list-full, list-ends}
 use Rattle.planning.specs.ExpansionSteps.{list-grows}
-use Rattle.planning.specs.SearchLaws.{none-listed, wanted-intro, unwanted-irrelevant, unwanted-listed}
+use Rattle.planning.specs.SearchLaws.{wanted-intro, unwanted-irrelevant, unwanted-listed}
 use Rattle.planning.specs.ColumnLaws.{length-prefix, getD-prefix, entries-store}
 use Rattle.planning.specs.Facts.{Actions, unitDomain, factPlan}
 use Rattle.expander.specs.Expands.{actionsOf, Columns, room, held}
-use Rattle.expander.specs.ExpandsLaws.{count-needs, count-adds, count-deletes, count-most, entryOf}
+use Rattle.expander.specs.ExpandsLaws.{count-needs, count-adds, count-deletes, count-most, entryOf, nowhere-unlisted}
 use Rattle.expander.proofs.Tables.{Holds, store, holds-none, holds-store, holds-self, holds-on}
 
 -- ---- what holds at the head of each loop
@@ -52,17 +53,12 @@ pub record AtAction (A : Actions) (goal : Condition) (stop : Condition → Bool)
   pub tried : a ≤ A .count
   pub same : remainingAt (unitDomain A goal) (A .count) capacity stop e a (held t n) ≡ factPlan A goal capacity stop
 
--- None of the first k listed conditions is a part of c.
-pub record AtListed (conditions : List ℕ) (n c k : ℕ) : Type 0 where
-  pub inside : k ≤ n
-  pub passed : (i : ℕ) → i < k → T (weaker (getD conditions i 0) c) → ⊥
-
 -- Where the search found nothing: action a serves c, and of what it makes of c no listed condition is a part.
 pub record Wanted (A : Actions) (conditions : List ℕ) (n c a new : ℕ) : Type 0 where
   pub below : a < A .count
   pub serves : T (relevant (A .action a) c)
   pub made : new ≡ regressed (A .action a) c
-  pub unlisted : (i : ℕ) → i < n → T (weaker (getD conditions i 0) new) → ⊥
+  pub searched : newestWeaker conditions n new ≡ Nowhere
 
 -- ---- before the loops
 
@@ -174,10 +170,6 @@ module _ {A : Actions} {goal : Condition} {stop : Condition → Bool} {capacity 
   its-length : length (held t n) ≡ n
   its-length = length-prefix (entryOf t) n
 
-  -- the condition of entry i, as the definition lists it
-  listed-is : (i : ℕ) → i < n → entryIn D (held t n) i .condition ≡ getD (t .conditions) i 0
-  listed-is i h = ap (λ x. x .condition) (getD-prefix (entryOf t) n i (root D) h)
-
   module _ (more : a < count) where
     below : a < A .count
     below = omega (arith, I .counted)
@@ -203,10 +195,10 @@ module _ {A : Actions} {goal : Condition} {stop : Condition → Bool} {capacity 
         (λ s. T-not (relevant (A .action a) c) r (and-right (ltb a (A .count)) _ s)))))
 
     -- a listed condition is a part of what it makes of it
-    pub skip-listed : (new : ℕ) → new ≡ regressed (A .action a) c → (k : ℕ) → k < n → T (weaker (getD (t .conditions) k 0) new)
+    pub skip-listed : (new : ℕ) → new ≡ regressed (A .action a) c → (newestWeaker (t .conditions) n new ≡ Nowhere → ⊥)
         → AtAction A goal stop capacity count t₀ n₀ e c d t n (a + 1)
-    skip-listed new made k h s =
-        skip (unwanted-listed D a it (held t n) k (omega (arith, its-length)) (rw (its-condition-is, ← made, listed-is k h) s))
+    skip-listed new made found =
+        skip (unwanted-listed D a it (held t n) (λ u. found (nowhere-unlisted A goal t n new .1 (rw (its-condition-is, ← made) at u))))
 
   module _ {new : ℕ} (W : Wanted A (t .conditions) n c a new) where
     new-is : newCondition D a it ≡ new
@@ -215,8 +207,7 @@ module _ {A : Actions} {goal : Condition} {stop : Condition → Bool} {capacity 
     is-wanted : T (wanted D a it (held t n))
     is-wanted =
         wanted-intro D a it (held t n) (rw its-condition-is (and-intro (ltb a (A .count)) _ (lt→ltb a (A .count) (W .below)) (W .serves))) tt
-        (none-listed D (held t n) (newCondition D a it)
-        (λ k h s. let l : k < n = omega (arith, its-length) in W .unlisted k l (rw (new-is, listed-is k l) at s)))
+        (rw new-is (nowhere-unlisted A goal t n new .0 (W .searched)))
 
     -- there is no room for it
     pub fills : n ≡ capacity → full (held t n) ≡ factPlan A goal capacity stop
@@ -265,17 +256,3 @@ module _ {A : Actions} {goal : Condition} {stop : Condition → Bool} {capacity 
                 (rw new-is s) (omega (arith, I .inside, its-length)))
                 ∙ I .same);
           }
-
--- ---- the search
-
-pub pass : {conditions : List ℕ} {n c k : ℕ} → AtListed conditions n c k → (k ≡ n → ⊥) → T (not (weaker (getD conditions k 0) c))
-    → AtListed conditions n c (k + 1)
-pass {conditions} {n} {c} {k} S other t =
-    record {
-      inside = omega (arith, S .inside);
-      passed = below-more (λ (i : ℕ). T (weaker (getD conditions i 0) c) → ⊥) k (S .passed) (T-not (weaker (getD conditions k 0) c) t);
-    }
-
--- a flag is not both
-pub clash : {b : Bool} → b ≡ true → b ≡ false → ⊥
-clash p q = let z : _≡_ {A = ℕ} 0 1 = cc in omega arith

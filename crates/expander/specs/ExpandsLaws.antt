@@ -1,20 +1,25 @@
 -- What a caller of the expansion learns: the tables hold the list of the plan, and the list has the properties that the theory of plans shows.
 -- Assumes nothing.
 use mathlib.Core.Path.{_≡_, refl, sym, ap, _∙_, subst}
-use mathlib.Core.Bool.{Bool}
+use mathlib.Core.Bool.{Bool, not}
+use mathlib.Core.Logic.{_↔_}
 use mathlib.Core.List.{List, map}
 use Prim.Native.Nat.{ℕ, suc, _≤_, _<_}
 use native.Mathlib.Omega.{arith}
-use lib.Dec.{T}
+use lib.Dec.{T, T-not}
 use lib.ListN.{length, getD, drop, length-append, length-map, List·getD-append, List·getD-map}
 use lib.Seq.{ext-getD}
 use Rattle.base.specs.Lists.{getD-inside}
 use Rattle.refusal.specs.Checked.{accepted, andThen}
+use Rattle.conditions.specs.declared.Found.the-variants.{Nowhere}
 use Rattle.conditions.specs.Condition.{Condition, conditionWithin}
+use Rattle.conditions.specs.Search.{newestWeaker}
+use Rattle.conditions.specs.SearchLaws.{nowhere-none, none-nowhere}
 use Rattle.planning.specs.Domain.{Domain}
 use Rattle.planning.specs.Sequence.{Reaches}
 use Rattle.planning.specs.Listing.{Derived}
-use Rattle.planning.specs.Expansion.{Entry, Outcome, exhausted, covered, full, entries, entryIn, listing}
+use Rattle.planning.specs.Expansion.{Entry, Outcome, exhausted, covered, full, entries, entryIn, listing, listed}
+use Rattle.planning.specs.SearchLaws.{some-listed, none-listed}
 use Rattle.planning.specs.Progress.{Sound}
 use Rattle.planning.specs.ExpansionLaws.{expand-sound}
 use Rattle.planning.specs.Demand.{FirstIn}
@@ -99,6 +104,22 @@ entryOf t i = entryAt (t .conditions) (t .actions) (t .parents) (t .depths) i
 
 pub held-length : (t : Columns) (n : ℕ) → length (held t n) ≡ n
 held-length t n = length-prefix (entryOf t) n
+
+-- Document 02, W6: the search answers none "exactly where it did before", where no listed condition is a part.
+module _ (A : Actions) (goal : Condition) (t : Columns) (n : ℕ) (c : Condition) where
+  condition-held : (i : ℕ) → i < n → entryIn (unitDomain A goal) (held t n) i .condition ≡ getD (t .conditions) i 0
+  condition-held i h = ap (λ x. x .condition) (getD-prefix (entryOf t) n i _ h)
+
+  pub nowhere-unlisted : (newestWeaker (t .conditions) n c ≡ Nowhere) ↔ T (not (listed (unitDomain A goal) (held t n) c))
+  nowhere-unlisted =
+      let D = unitDomain A goal in
+      let few = held-length t n in (
+        λ e. none-listed D (held t n) c (λ i h p.
+            let k : i < n = omega (arith, few) in
+            nowhere-none (t .conditions) c n e i k (rw (condition-held i k) at p)),
+        λ u. none-nowhere (t .conditions) c n (λ i h p.
+            T-not (listed D (held t n) c) u (some-listed D (held t n) c i (omega (arith, few)) (rw (condition-held i h) p))),
+      )
 
 -- the papers' number of an answer is that of the list that the tables then hold
 pub answer-listed : (until : Until) (r : Expanded) (t : Columns)

@@ -1,5 +1,6 @@
 // The expansion of a goal into the list of conditions from which actions lead to it (document 01, "Expansion"), over rows of the actions'
 // masks and four lent list tables. An action is document 01's job.
+use conditions::Found;
 ghost use mathlib.Core.Path.{_≡_};
 ghost use Prim.Native.Nat.{min};
 ghost use Rattle.expander.specs.Expands.{countOf, actionsOf, columns, capacityOf, endedBy, Expands};
@@ -105,17 +106,8 @@ pub fn expand(
             let action = conditions::action_at(needs, adds, deletes, a);
             if conditions::is_relevant(action, condition) {
                 let new = conditions::regress(action, condition);
-                let mut k: usize = 0;
-                let found = 'search: loop {
-                    if k == n {
-                        break false;
-                    }
-                    if conditions::is_weaker(conditions[k], new) {
-                        break true;
-                    }
-                    k += 1;
-                };
-                if !found {
+                let found = conditions::newest_weaker(conditions, n, new);
+                if let Found::Nowhere = found {
                     if n == capacity {
                         break 'entries Expanded::Full(n);
                     }

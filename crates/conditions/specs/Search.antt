@@ -1,0 +1,31 @@
+-- The search for a listed part of a condition: document 02, W6.
+-- Definitions only.
+use mathlib.Core.Path.{_≡_}
+use mathlib.Core.List.{List}
+use mathlib.Core.Logic.{_↔_}
+use Prim.Native.Nat.{ℕ, zero, suc, _<_}
+use lib.Dec.{T}
+use lib.ListN.{getD}
+use Rattle.base.specs.Bools.{if_then_else_}
+use Rattle.conditions.specs.declared.Found.{Found}
+use Rattle.conditions.specs.declared.Found.the-variants.{At, Nowhere}
+use Rattle.conditions.specs.Condition.{Condition, weaker}
+
+-- among the first n listed conditions, "from the newest entry down to entry 0", "the entry it found, the newest that is a part"
+unfoldable pub newestWeaker : List ℕ → ℕ → Condition → Found
+newestWeaker listed zero c = Nowhere
+newestWeaker listed (suc k) c = if weaker (getD listed k 0) c then At k else newestWeaker listed k c
+
+-- ---- what an answer says
+
+-- The entry is one of the first n and a part, and no newer one is.
+pub record Newest (listed : List ℕ) (n : ℕ) (c : Condition) (entry : ℕ) : Type 0 where
+  pub is-listed : entry < n
+  pub is-part : T (weaker (getD listed entry 0) c)
+  pub no-newer : (i : ℕ) → entry < i → i < n → T (weaker (getD listed i 0) c) → ⊥
+
+-- "It answers none exactly where it did before": where none of them is a part.
+pub record Searches (listed : List ℕ) (n : ℕ) (c : Condition) (found : Found) : Type 0 where
+  pub answer : found ≡ newestWeaker listed n c
+  pub newest : (entry : ℕ) → found ≡ At entry → Newest listed n c entry
+  pub nowhere : (found ≡ Nowhere) ↔ ((i : ℕ) → i < n → T (weaker (getD listed i 0) c) → ⊥)
