@@ -280,6 +280,24 @@ static inline struct bay_shift_planned bay_tree_plan_shift(struct bay_table tabl
     return planned;
 }
 
+/* The search that a plan makes of each new condition, on any list: the newest entry whose condition is a part of the given one, that
+ * is, wants no other fact. answer: 0, 1 and the entry, or 0 and 0 where there is none. It is never refused. */
+uint64_t bay_newest_weaker(const uint64_t *listed, size_t listed_len, uint64_t condition, uint64_t answer[3]);
+
+struct bay_found {
+    int any;      /* is there one? */
+    size_t entry; /* 0 where there is none */
+};
+
+static inline struct bay_found bay_list_newest_weaker(const uint64_t *listed, size_t entries, uint64_t condition) {
+    uint64_t answer[3];
+    struct bay_found found;
+    bay_newest_weaker(listed, entries, condition, answer);
+    found.any = answer[1] == 1;
+    found.entry = (size_t)answer[2];
+    return found;
+}
+
 /* ---- the tick */
 
 enum bay_status {

@@ -155,6 +155,20 @@ static void ticks(void) {
     REFUSED(bay_tree_tick(table, deeper, reading(0x02, 0)), BAY_TREE_TOO_DEEP, 48);
 }
 
+static void searches(void) {
+    static const uint64_t listed[] = {0x03, 0x01, 0x04, 0x01, 0x0c};
+    struct bay_found found = bay_list_newest_weaker(listed, 5, 0x03);
+    CHECK(found.any && found.entry == 3);
+    found = bay_list_newest_weaker(listed, 3, 0x03);
+    CHECK(found.any && found.entry == 1);
+    found = bay_list_newest_weaker(listed, 1, 0x03);
+    CHECK(found.any && found.entry == 0);
+    found = bay_list_newest_weaker(listed, 5, 0x08);
+    CHECK(!found.any && found.entry == 0);
+    found = bay_list_newest_weaker(listed, 0, 0x03);
+    CHECK(!found.any && found.entry == 0);
+}
+
 static void cards(void) {
     struct bay_table table = first(147);
     struct bay_tree tree = {tree_bytes, 111};
@@ -193,6 +207,7 @@ int main(void) {
     CHECK(BAY_MAX_TABLE_BYTES == 2 + 27 * BAY_MAX_JOBS + 10);
     tables();
     plans();
+    searches();
     ticks();
     cards();
     printf("%d passed, %d failed\n", passed, failed);

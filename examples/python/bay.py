@@ -163,6 +163,7 @@ _PARAMETERS = {
     "bay_write_table": [c_size_t] + _SLICE * 4 + [c_uint64] + _SLICE + _ANSWER,
     "bay_plan": _SLICE + _MASKS + _SLICE * 5 + _ANSWER,
     "bay_plan_shift": _SLICE + _SLICE * 5 + _ANSWER,
+    "bay_newest_weaker": _SLICE + [c_uint64] + _ANSWER,
     "bay_tick": _SLICE * 2 + _MASKS + _ANSWER,
     "bay_open": _SLICE + _MASKS + _CARD + _ANSWER,
     "bay_read_outside": _SLICE + _MASKS + _CARD[:2] + _ANSWER,
@@ -243,6 +244,12 @@ class Bay:
 
     def plan_shift(self, table, most_entries=MAX_ENTRIES, most_tree_bytes=MAX_TREE_BYTES) -> ShiftPlan:
         return ShiftPlan(*self._planned("bay_plan_shift", 3, _bytes("table", table), most_entries, most_tree_bytes))
+
+    def newest_weaker(self, listed, condition):
+        """The newest entry of listed conditions that is a part of a condition, or None."""
+        listed = _row(c_uint64, [_number(f"entry {i}", mask, 64) for i, mask in enumerate(listed)])
+        found, entry = self._call("bay_newest_weaker", 3, *listed, _number("condition", condition, 64))
+        return entry if found else None
 
     # ---- the tick
 

@@ -51,6 +51,8 @@ class Ranges(unittest.TestCase):
             yield lambda x: bay.read_job(table, x)
             yield lambda x: bay.write_table(x, [], 0)
             yield lambda x: bay.write_table(1, [], x)
+            yield lambda x: bay.newest_weaker([0, x], 0)
+            yield lambda x: bay.newest_weaker([0], x)
             for name in ("needs", "adds", "deletes"):
                 yield lambda x, name=name: bay.write_table(1, [job, job._replace(**{name: x})], 0)
             for reading in (lambda x: Reading(x, 0), lambda x: Reading(0, x)):
@@ -196,6 +198,12 @@ class Calls(unittest.TestCase):
         self.refused(Refusal.LIST_FULL, 0, self.bay.plan, self.table, Reading(0x10), most_entries=0)
         self.refused(Refusal.TREE_TOO_SHORT, 8, self.bay.plan, self.table, Reading(0x02), most_tree_bytes=110)
         self.refused(Refusal.LIST_FULL, 8, self.bay.plan_shift, self.table, most_entries=8)
+
+    def test_searches(self):
+        listed = [0x03, 0x01, 0x04, 0x01, 0x0C]
+        self.assertEqual([self.bay.newest_weaker(listed[:n], 0x03) for n in range(6)], [None, 0, 1, 1, 3, 3])
+        self.assertIsNone(self.bay.newest_weaker(listed, 0x08))
+        self.assertEqual(self.bay.newest_weaker([1 << 63, 0], 1 << 63), 1)
 
     def test_ticks(self):
         tree = self.bay.plan(self.table, Reading(0x02)).tree

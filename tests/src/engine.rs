@@ -304,6 +304,11 @@ pub fn condition_before(job: &Job, condition: u64) -> u64 {
     job.needs | (condition & !job.adds)
 }
 
+/// Document 02, W6: "from the newest entry down to entry 0", "the newest that is a part".
+pub fn newest_part(listed: &[u64], condition: u64) -> Option<usize> {
+    listed.iter().rposition(|&part| is_part(part, condition))
+}
+
 /// The list of document 01's Expansion; without a start that of document 02, W2, which "stops only when all entries are expanded or number 10
 /// arises".
 pub fn expand(table: &Table, start: Option<u64>, capacity: usize) -> (Vec<Entry>, Ending) {

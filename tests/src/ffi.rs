@@ -57,6 +57,7 @@ extern "C" {
         tree_len: usize,
         answer: *mut u64,
     ) -> u64;
+    fn bay_newest_weaker(listed: *const u64, listed_len: usize, condition: u64, answer: *mut u64) -> u64;
     fn bay_tick(
         table: *const u8,
         table_len: usize,
@@ -200,6 +201,10 @@ pub fn plan_shift(table: &[u8], lent: &mut Lent) -> [u64; 3] {
             answer,
         )
     })
+}
+
+pub fn newest_weaker(listed: &[u64], condition: u64) -> [u64; 3] {
+    answer_of(|answer| unsafe { bay_newest_weaker(listed.as_ptr(), listed.len(), condition, answer) })
 }
 
 pub fn tick(table: &[u8], tree: &[u8], held: u64, unread: u64) -> [u64; 3] {

@@ -19,10 +19,11 @@ fn reached(function: &'static str, number: u64) {
 }
 
 /// The numbers that each function can give.
-const NUMBERS: [(&str, &[u64]); 9] = [
+const NUMBERS: [(&str, &[u64]); 10] = [
     ("read_table", &[0, 1, 2, 3, 4, 5, 6, 7, 19]),
     ("read_job", &[0, 1, 2, 3, 4, 5, 6, 7, 16, 19]),
     ("write_table", &[0, 3, 4, 5, 6, 19, ffi::TOO_SHORT, ffi::UNEVEN]),
+    ("newest_weaker", &[0]),
     ("plan", &[0, 1, 2, 3, 4, 5, 6, 7, 8, 9, 10, 11, 12, 19]),
     ("plan_shift", &[0, 1, 2, 3, 4, 5, 6, 7, 10, 12, 19]),
     ("tick", &[0, 1, 2, 3, 4, 5, 6, 7, 8, 13, 14, 15, 19]),
@@ -223,6 +224,20 @@ pub fn tick(table: &[u8], tree: &[u8], held: u64, unread: u64) -> Result<Ticked,
     same(ffi::tick(&table_copy, &tree_copy, held, unread), expected, case);
     same((table_copy.as_slice(), tree_copy.as_slice()), (table, tree), case);
     result
+}
+
+pub fn newest_weaker(listed: &[u64], condition: u64) -> Option<usize> {
+    let found = engine::newest_part(listed, condition);
+    let expected = match found {
+        Some(entry) => [0, 1, entry as u64],
+        None => [0, 0, 0],
+    };
+    let copy = listed.to_vec();
+    let case = || format!("newest_weaker of {condition:x} in {} entries {:x?}", listed.len(), &listed[..listed.len().min(60)]);
+    reached("newest_weaker", expected[0]);
+    same(ffi::newest_weaker(&copy, condition), expected, case);
+    same(copy.as_slice(), listed, case);
+    found
 }
 
 /// One call over a card: the library's card starts as `card` does, and must end as it does.

@@ -4,6 +4,7 @@ pub mod brute;
 pub mod checks;
 pub mod groups_cards;
 pub mod groups_plans;
+pub mod groups_searches;
 pub mod groups_shift;
 pub mod groups_tables;
 pub mod groups_ticks;
@@ -22,6 +23,7 @@ pub struct Group {
 pub fn groups() -> Vec<Group> {
     let mut all = Vec::new();
     all.extend(groups_tables::groups());
+    all.extend(groups_searches::groups());
     all.extend(groups_plans::groups());
     all.extend(groups_shift::groups());
     all.extend(groups_ticks::groups());

@@ -1,0 +1,2 @@
+pub mod SearchWords
+pub mod SearchWordLaws
