@@ -37,6 +37,16 @@ fn long_table(jobs: usize) -> (Vec<u8>, u64) {
     (engine::table_bytes(64, &jobs, 0xfff), 0xfff000)
 }
 
+/// As with twelve jobs, and sixty more that need the goal itself: what they give has the goal for a part, the oldest entry of all.
+fn goal_needing_table() -> (Vec<u8>, u64) {
+    let job = |i: usize| match i {
+        0..12 => Job { needs: 1 << (12 + i), adds: 1 << i, deletes: 0, seconds: 60 },
+        _ => Job { needs: 0xfff, adds: 1 << (12 + i % 12), deletes: 0, seconds: 60 },
+    };
+    let jobs: Vec<Job> = (0..72).map(job).collect();
+    (engine::table_bytes(24, &jobs, 0xfff), 0xfff000)
+}
+
 /// A counter of so many bits, each with a fact for set and one for clear: one way of 2^bits - 1 jobs, and as many entries and one.
 fn counter_table(bits: usize) -> (Vec<u8>, u64) {
     let set = |i: usize| 1u64 << (2 * i);
@@ -55,8 +65,7 @@ fn lent() -> Lent {
     Lent::filled([4_096, 4_096, 4_096, 4_096, 65_535], 0)
 }
 
-fn plan_case(jobs: usize) -> Vec<Side> {
-    let (table, start) = long_table(jobs);
+fn plan_case((table, start): (Vec<u8>, u64)) -> Vec<Side> {
     let (library_table, mut library_lent) = (table.clone(), lent());
     let mut rust_lent = lent();
     vec![
@@ -116,10 +125,11 @@ fn table_case(table: Vec<u8>) -> Vec<Side> {
 }
 
 /// The cases and what builds them: only what is asked for is built.
-const CASES: [(&str, fn() -> Vec<Side>); 7] = [
-    ("plan_12_jobs", || plan_case(12)),
-    ("plan_72_jobs", || plan_case(72)),
-    ("plan_128_jobs", || plan_case(128)),
+const CASES: [(&str, fn() -> Vec<Side>); 8] = [
+    ("plan_12_jobs", || plan_case(long_table(12))),
+    ("plan_72_jobs", || plan_case(long_table(72))),
+    ("plan_128_jobs", || plan_case(long_table(128))),
+    ("plan_oldest_part", || plan_case(goal_needing_table())),
     ("tick_8_entries", || tick_case(trailer::table(), 0x02)),
     ("tick_4096_entries", || tick_case(counter_table(12).0, counter_table(12).1)),
     ("table_5_jobs", || table_case(trailer::table())),

@@ -125,7 +125,7 @@ pub fn plan(table: &[u8], held: u64, unread: u64, lent: &mut Lent) -> Result<Pla
                 }
                 let new = needs[job] | (condition & !adds[job]);
                 let mut found = false;
-                for listed in &lent.conditions[..n] {
+                for listed in lent.conditions[..n].iter().rev() {
                     if listed & !new == 0 {
                         found = true;
                         break;
