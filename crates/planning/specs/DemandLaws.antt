@@ -10,10 +10,10 @@ use native.Mathlib.Omega.{arith}
 use lib.Dec.{T, not-T}
 use lib.ListN.{length}
 use Rattle.planning.specs.Domain.{Domain, Laws, Plannable}
-use Rattle.planning.specs.Sequence.{Answer, running, total, Reaches}
+use Rattle.planning.specs.Sequence.{Answer, running, total, Reaches, Shortest, Run}
 use Rattle.planning.specs.Listing.{path, answerAt, Good, Fresh, Optimal}
 use Rattle.planning.specs.Logic.{choice-true, choice-false}
-use Rattle.planning.specs.Theory.{run-transfer, first-met, irredundant-entry, by-parents, all-conditions, path-exact, complete, best}
+use Rattle.planning.specs.Theory.{run-unique, run-named, run-transfer, first-met, irredundant-entry, by-parents, all-conditions, path-exact, complete, best}
 use Rattle.planning.specs.Expansion.{Entry, Outcome, exhausted, covered, full, entries, entryIn, expand, listing}
 use Rattle.planning.specs.Progress.{Progress, Sound}
 use Rattle.planning.specs.ProgressLaws.{exhausted-closed, entry-closed}
@@ -43,18 +43,27 @@ module _ {State Condition : Type 0} (D : Domain State Condition ℕ) where
   tick-first (x ∷ l) s zero f = choice-true (D .satisfies s (x .condition)) _ _ (f .met)
   tick-first (x ∷ l) s (suc i) f = choice-false (D .satisfies s (x .condition)) _ _ (head-unmet x l s i f) ∙ later-first l s i (tail-first x l s i f)
 
+  -- the run decides what ticks name
+  module _ (tick : State → Answer ℕ) (l : List (Entry Condition)) (s : State) where
+    fewest-run : (i : ℕ) → FirstIn D l s i → Run D tick s (path (listing D l) i) → Shortest D length s (path (listing D l) i)
+        → length (path (listing D l) i) ≡ entryIn D l i .depth → Fewest D tick l s
+    fewest-run i first run shortest exact =
+        record {
+          entry = i;
+          first = first;
+          run = run;
+          shortest = shortest;
+          exact = exact;
+          names = run-named D tick s (path (listing D l) i) run;
+          only = λ w r. run-unique D tick s w (path (listing D l) i) r run;
+        }
+
   -- a tick that answers as the tick of the list does, in each state of a kind that actions keep to, has its runs
   pub fewest-transfer : (Kind : State → Type 0) → ((a : ℕ) (s : State) → T (D .applicable a s) → Kind s → Kind (D .result a s))
       → (tick tick′ : State → Answer ℕ) → ((s : State) → Kind s → tick s ≡ tick′ s) → (l : List (Entry Condition)) (s : State) → Kind s
       → Fewest D tick l s → Fewest D tick′ l s
   fewest-transfer Kind kept tick tick′ alike l s k f =
-      record {
-        entry = f .entry;
-        first = f .first;
-        run = run-transfer D Kind kept tick tick′ alike s k (path (listing D l) (f .entry)) (f .run);
-        shortest = f .shortest;
-        exact = f .exact;
-      }
+      fewest-run tick′ l s (f .entry) (f .first) (run-transfer D Kind kept tick tick′ alike s k (path (listing D l) (f .entry)) (f .run)) (f .shortest) (f .exact)
 
 module _ {State Condition : Type 0} {D : Domain State Condition ℕ} {count : ℕ} (H : Plannable D count) (capacity : ℕ) (stop : Condition → Bool) where
   total-length : (w : List ℕ) → total D w ≡ length w
@@ -91,17 +100,12 @@ module _ {State Condition : Type 0} {D : Domain State Condition ℕ} {count : �
       let l = entries o in
       let f = first-met D (listing D l) (length l) s c in
       let b = known-best laws o k s (f .0) (f .1) in
-      record {
-        entry = f .0;
-        first = f .1;
-        run = b .run;
-        shortest =
-            record {
-              reaches = b .shortest .reaches;
-              least = λ v r. omega (arith, b .shortest .least v r, total-length v, total-length (path (listing D l) (f .0)));
-            };
-        exact = sym (total-length (path (listing D l) (f .0))) ∙ b .exact;
-      }
+      fewest-run D (tickList D l) l s (f .0) (f .1) (b .run)
+      (record {
+        reaches = b .shortest .reaches;
+        least = λ v r. omega (arith, b .shortest .least v r, total-length v, total-length (path (listing D l) (f .0)));
+      })
+      (sym (total-length (path (listing D l) (f .0))) ∙ b .exact)
 
   -- ---- whatever the expansion gives
 

@@ -10,9 +10,10 @@ use native.Mathlib.Nat.{not-suc-le-zero}
 use native.Mathlib.Decide.{decLe}
 use native.Mathlib.Omega.{arith}
 use lib.Dec.{T, T-not}
+use lib.ListN.{take}
 use Rattle.base.specs.Bools.{by-cases}
 use Rattle.planning.specs.Domain.{Domain, Laws}
-use Rattle.planning.specs.Sequence.{Answer, success, running, total, Reaches, Run}
+use Rattle.planning.specs.Sequence.{Answer, success, running, total, Reaches, Run, named}
 use Rattle.planning.specs.Listing.{Listing, path, answerAt, Covered, CoveredWithin, First, Derived, Good, Fresh, Closed, Optimal}
 use Rattle.planning.specs.PathLaws.{path-step as step-along}
 use Rattle.planning.specs.Logic.{below-suc}
@@ -35,6 +36,13 @@ module _ {State Condition Action : Type 0} (D : Domain State Condition Action) w
     where
       same : tick s ≡ running a → tick s ≡ running b → a ≡ b
       same p q = cc
+
+  -- and what ticks name from there is the run's, however many are asked for
+  pub run-named : (tick : State → Answer Action) (s : State) (w : List Action) → Run D tick s w → (most : ℕ) → named D tick most s ≡ take most w
+  unfolding named
+  run-named tick s w r zero = refl
+  run-named tick s [] r (suc most) = rw (r, named)
+  run-named tick s (a ∷ w) r (suc most) = rw (r .0, named) (ap (λ (v : List Action). a ∷ v) (run-named tick (D .result a s) w (r .2) most))
 
   -- a tick that answers alike in every state of a kind that actions keep to has the same runs
   pub run-transfer : (Kind : State → Type 0) → ((a : Action) (s : State) → T (D .applicable a s) → Kind s → Kind (D .result a s))
