@@ -364,7 +364,7 @@ pub fn tree_bytes(list: &[Entry]) -> Vec<u8> {
     bytes
 }
 
-/// The jobs of the way from an entry along parents to entry 0, in the order in which they are worked.
+/// The jobs "from the covering entry along parents to entry 0", in the order in which they are worked.
 pub fn way_from(list: &[Entry], entry: usize) -> Vec<u8> {
     let mut jobs = Vec::new();
     let mut at = entry;
@@ -465,8 +465,7 @@ pub fn plan(table: &[u8], held: u64, unread: u64, lent: &mut Lent) -> Result<Pla
         Ending::Covered => {}
     }
     let tree_bytes = lent.store_tree(&list)?;
-    // The list stops at the covering entry, so that is its last.
-    let way = way_from(&list, list.len() - 1);
+    let way = named(&table, &read_tree(&lent.tree[..tree_bytes], &table)?, held);
     Ok(Planned { entries: list.len(), tree_bytes, way_jobs: way.len(), way_minutes: minutes(seconds_of(&table, &way)) })
 }
 
@@ -619,6 +618,18 @@ pub fn tick(table: &[u8], tree: &[u8], held: u64, unread: u64) -> Result<Ticked,
     judge_reading(&table, held, unread)?;
     let root = read_tree(tree, &table)?;
     Ok(tick_node(&root, held, unread))
+}
+
+/// "the jobs that ticks name from the start, each with its listed effect" (document 02, W5). Any answer but a job ends them; on a tree that a plan
+/// did not build, or from a state that it does not cover, they need not end.
+pub fn named(table: &Table, root: &Node, start: u64) -> Vec<u8> {
+    let mut jobs = Vec::new();
+    let mut state = start;
+    while let Status::Running(number) = tick_node(root, state, 0).status {
+        jobs.push(number);
+        state = table.jobs[usize::from(number)].finish(state);
+    }
+    jobs
 }
 
 // ---- the job card

@@ -1,6 +1,5 @@
 -- The marked cases, P1's run and P5's, the checklist and the printed texts, computed from the definitions that the contracts cite.
 -- Assumes nothing.
-use Prim.Native.Nat.{ℕ}
 use mathlib.Core.Path.{_≡_, refl}
 use mathlib.Core.Bool.{true}
 use mathlib.Core.List.{List, [], _∷_, map}
@@ -18,7 +17,7 @@ use Rattle.table.specs.Read as Table
 use Rattle.tree.specs.ReadTree as Tree
 use Rattle.tree.specs.Tick.{tickBy}
 use Rattle.tree.specs.TickBytes.{tickChecked, tickBytes}
-use Rattle.planning.specs.Sequence.{Run}
+use Rattle.planning.specs.Sequence.{Run, named}
 use Rattle.planning.specs.Expansion.{listed, expandEntry, expandFrom, expand}
 use Rattle.minutes.specs.Minutes.{nearest}
 use Rattle.runs.specs.Runs.{tickOn}
@@ -46,12 +45,14 @@ pub record Computed : Type 0 where
   -- "From P1's start the run is 3, 1, 2, 4, then Success; from P5's it has no job."
   pub p1-run : Run (tableDomain trailer) (tickOn trailerBytes (p1Plan .tree)) 0x02 (3 ∷ 1 ∷ 2 ∷ 4 ∷ [])
   pub p5-run : Run (tableDomain trailer) (tickOn trailerBytes (planFor trailerBytes (reading 0x10 0) 4096 all .tree)) 0x10 []
+  -- document 02, W5: these jobs are all that ticks name, though more are asked for
+  pub p1-named : named (tableDomain trailer) (tickOn trailerBytes (p1Plan .tree)) 8 0x02 ≡ 3 ∷ 1 ∷ 2 ∷ 4 ∷ []
   pub all-readings : length (readings 5) ≡ 243
   pub checklist-kept : checklist ≡ true
   pub prints-right : map (λ p. p .found) prints ≡ map (λ p. p .expected) prints
 
 pub computed : Computed
-unfolding planShift planFor startFor tablePlan expand expandFrom expandEntry listed weaker satisfied applied relevant regressed evaluated subset intersects union difference within sound checkedAt checkedStart nearest conditionBytes actionBytes firstBytes entryBytes laterEntries treeBytes widthOf commandAt fromBytes toBytes numberAt tableBytes jobsBytes jobBytes goalBytes Table.readTable Table.readJobs Table.readGoal Table.readEnd Table.due jobAt validatedJob tickBytes tickChecked tickBy Tree.wholeAt Tree.operandsOf Tree.nodeAt Tree.readRow Tree.readNode Tree.readTree Tree.readEnd readingsFrom programText filesPlan planText refusedText entriesText digits placesIn places
+unfolding named planShift planFor startFor tablePlan expand expandFrom expandEntry listed weaker satisfied applied relevant regressed evaluated subset intersects union difference within sound checkedAt checkedStart nearest conditionBytes actionBytes firstBytes entryBytes laterEntries treeBytes widthOf commandAt fromBytes toBytes numberAt tableBytes jobsBytes jobBytes goalBytes Table.readTable Table.readJobs Table.readGoal Table.readEnd Table.due jobAt validatedJob tickBytes tickChecked tickBy Tree.wholeAt Tree.operandsOf Tree.nodeAt Tree.readRow Tree.readNode Tree.readTree Tree.readEnd readingsFrom programText filesPlan planText refusedText entriesText digits placesIn places
 computed =
     record {
       plans-right = refl;
@@ -60,6 +61,7 @@ computed =
       dropped-right = refl;
       p1-run = (refl, tt, (refl, tt, (refl, tt, (refl, tt, refl))));
       p5-run = refl;
+      p1-named = refl;
       all-readings = refl;
       checklist-kept = refl;
       prints-right = refl;

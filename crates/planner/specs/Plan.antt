@@ -1,6 +1,6 @@
 -- The plan for a vehicle, from the bytes of a table and a start reading: document 01, "Expansion", "Job card", the table's stops and 8 to 12.
 -- Definitions only.
-use Prim.Native.Nat.{ℕ, zero, _+_, _-_}
+use Prim.Native.Nat.{ℕ, zero, _+_}
 use mathlib.Core.List.{List, [], _∷_}
 use lib.ListN.{length, getD}
 use Rattle.refusal.specs.Checked.{Checked, accepted, refusedBy, andThen}
@@ -11,11 +11,12 @@ use Rattle.job.specs.declared.Job.{Job}
 use Rattle.job.specs.Job.{noJob}
 use Rattle.table.specs.Table.{Table}
 use Rattle.table.specs.Read.{readTable}
-use Rattle.planning.specs.Listing.{path}
-use Rattle.planning.specs.Expansion.{Entry, listing}
+use Rattle.planning.specs.Sequence.{Answer, named}
+use Rattle.planning.specs.Expansion.{Entry}
 use Rattle.minutes.specs.Minutes.{nearest}
 use Rattle.expander.specs.declared.Until.the-variants.{Covers}
 use Rattle.flat.specs.TreeBytes.{treeBytes}
+use Rattle.runs.specs.Runs.{tickOn}
 use Rattle.builder.specs.Plan.{tableDomain, Plan, tablePlan, afterChecks}
 use Rattle.planner.specs.declared.Summary.{Summary}
 use Rattle.planner.specs.declared.Planned.{Planned}
@@ -23,9 +24,10 @@ use Rattle.planner.specs.declared.Planned.the-variants as P
 
 -- ---- the way from the start, and its time
 
--- the jobs "from the covering entry along parents to entry 0": the last entry of a plan's list is the one that is part of the start
-abbrev pub wayOf : Table → List (Entry Condition) → List ℕ
-wayOf t l = path (listing (tableDomain t) l) (length l - 1)
+-- Document 02, W5: "the jobs that ticks name from the start, each with its listed effect", by ticks on the bytes of the list's tree. A way has fewer
+-- jobs than its list has entries, so that the bound leaves none out.
+abbrev pub wayOf : (List ℕ → ℕ → Answer ℕ) → Table → ℕ → List (Entry Condition) → List ℕ
+wayOf tick t start l = named (tableDomain t) (tick (treeBytes l)) (length l) start
 
 -- "the sum of listed seconds"
 abbrev pub secondsOf : List Job → List ℕ → ℕ
@@ -33,13 +35,13 @@ secondsOf jobs [] = zero
 secondsOf jobs (a ∷ w) = getD jobs a noJob .seconds + secondsOf jobs w
 
 -- what a plan has to tell: "in minutes rounded alike"
-abbrev pub summaryOf : Table → List (Entry Condition) → Summary
-summaryOf t l =
+abbrev pub summaryOf : (List ℕ → ℕ → Answer ℕ) → Table → ℕ → List (Entry Condition) → Summary
+summaryOf tick t start l =
     record {
       entries = length l;
       bytes = length (treeBytes l);
-      jobs = length (wayOf t l);
-      minutes = nearest (secondsOf (t .jobs) (wayOf t l));
+      jobs = length (wayOf tick t start l);
+      minutes = nearest (secondsOf (t .jobs) (wayOf tick t start l));
     }
 
 -- ---- the plan
@@ -50,7 +52,7 @@ startFor table start = andThen (readTable table) λ t. andThen (checkedStart (t 
 
 -- a table's bytes and a start, with room for so many entries and so many bytes of a tree
 unfoldable pub planFor : List ℕ → Reading → ℕ → ℕ → Plan Summary
-planFor table start capacity room = afterChecks (startFor table start) λ t. tablePlan (Covers (start .held)) t capacity room (summaryOf t)
+planFor table start capacity room = afterChecks (startFor table start) λ t. tablePlan (Covers (start .held)) t capacity room (summaryOf (tickOn table) t (start .held))
 
 -- ---- the answer of the code, in these terms
 

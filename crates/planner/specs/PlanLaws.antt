@@ -2,20 +2,27 @@
 -- Assumes nothing.
 use Prim.Native.Nat.{ℕ, suc, _-_, _≤_, _<_}
 use native.Mathlib.Omega.{arith}
-use mathlib.Core.Path.{_≡_, refl, sym, ap, _∙_}
+use mathlib.Core.Path.{_≡_, sym, ap, _∙_}
 use mathlib.Core.List.{List}
+use lib.Dec.{T}
 use lib.ListN.{length, getD}
-use Rattle.refusal.specs.Checked.{Checked, accepted, refused}
+use lib.Seq.{take-all}
+use Rattle.base.specs.Bools.{holds}
+use Rattle.masks.specs.Sets.{within}
+use Rattle.refusal.specs.Checked.{Checked, accepted, refused, andThen}
 use Rattle.refusal.specs.CheckedLaws.{not-both, accepted-same, accepted-then}
 use Rattle.reading.specs.declared.Reading.{Reading}
-use Rattle.reading.specs.Reading.{checkedStart}
+use Rattle.reading.specs.Reading.{checkedStart, state}
+use Rattle.reading.specs.ReadingLaws.{sound-held, start-told}
+use Rattle.numbers.specs.Numbers.{AreBytes}
 use Rattle.conditions.specs.Condition.{Condition}
-use Rattle.table.specs.declared.Header.{Header}
 use Rattle.table.specs.Table.{Table}
-use Rattle.table.specs.Read.{readTable, headed}
+use Rattle.table.specs.Read.{readTable}
 use Rattle.planning.specs.Domain.{Domain}
+use Rattle.planning.specs.Sequence.{Answer}
 use Rattle.planning.specs.Listing.{path}
-use Rattle.planning.specs.PathLaws.{path-same}
+use Rattle.planning.specs.PathLaws.{path-same, path-short}
+use Rattle.planning.specs.Theory.{first-unique, first-covered}
 use Rattle.planning.specs.Expansion.{Entry, Outcome, exhausted, covered, full, entries, entryIn, root, listing}
 use Rattle.planning.specs.Facts.{factPlan}
 use Rattle.planning.specs.FactLaws.{fact-plannable, fact-start-first}
@@ -26,8 +33,11 @@ use Rattle.expander.specs.declared.Until.the-variants.{Covers}
 use Rattle.expander.specs.Expands.{Columns, written, endedBy, listedBy, room}
 use Rattle.expander.specs.ExpandsLaws.{capacity-most, over-long, over-at}
 use Rattle.builder.specs.declared.Size.{Size}
-use Rattle.builder.specs.Plan.{tableActions, tableDomain, Plan, noPlan, planBy, tablePlan, afterChecks, sizeOf, WritesPlan}
-use Rattle.builder.specs.PlanLaws.{whole-told, listed-entries, plan-list, writes-other, writes-refused, writes-nothing}
+use Rattle.tree.specs.TickBytes.{tickChecked, tickBytes}
+use Rattle.runs.specs.Runs.{runAnswer, tickOn}
+use Rattle.builder.specs.Plan.{tableActions, tableDomain, noPlan, tablePlan, sizeOf, WritesPlan}
+use Rattle.builder.specs.PlanLaws.{whole-told, listed-entries, plan-list, writes-other, writes-refused}
+use Rattle.builder.specs.WorksLaws.{list-works}
 use Rattle.planner.specs.declared.Summary.{Summary}
 use Rattle.planner.specs.Plan.{wayOf, secondsOf, summaryOf, startFor, planFor}
 use Rattle.planner.specs.Way.{linked, Linked, Traced}
@@ -55,15 +65,34 @@ module _ (table : List ℕ) (start : Reading) where
       let w = accepted-then (readTable table) _ t e in
       w .1 ∙ accepted-then (checkedStart (w .0 .facts) start) (λ r. accepted (w .0)) t (w .2) .2
 
+  -- and is a state of it
+  pub start-within : (t : Table) → startFor table start ≡ accepted t → T (within (t .facts) (start .held))
+  unfolding startFor
+  start-within t e =
+      let w = accepted-then (readTable table) _ t e in
+      let c = accepted-then (checkedStart (w .0 .facts) start) (λ r. accepted (w .0)) t (w .2) in
+      let same : w .0 ≡ t = accepted-same (c .2) in
+      rw same at (sound-held (w .0 .facts) start (holds _ (start-told (w .0 .facts) start (c .0) (c .1))))
+
   module _ (capacity size : ℕ) where
     pub plan-refused : (n p : ℕ) → refused n p ≡ startFor table start → noPlan n p ≡ planFor table start capacity size
     unfolding planFor
     plan-refused n p e = rw (← e)
 
     pub plan-started : (t : Table) → accepted t ≡ startFor table start
-        → tablePlan (Covers (start .held)) t capacity size (summaryOf t) ≡ planFor table start capacity size
+        → tablePlan (Covers (start .held)) t capacity size (summaryOf (tickOn table) t (start .held)) ≡ planFor table start capacity size
     unfolding planFor
     plan-started t e = rw (← e)
+
+-- of a table's bytes, ticks and plans take what was read of them
+module _ (a b : List ℕ) (e : readTable a ≡ readTable b) where
+  ticks-same : tickOn a ≡ tickOn b
+  unfolding tickBytes
+  ticks-same = ap {B = List ℕ → ℕ → Answer ℕ} (λ c tree s. runAnswer (andThen c λ t. tickChecked (t .facts) (length (t .jobs)) tree 0 (state s))) e
+
+  pub plan-same : (start : Reading) (capacity size : ℕ) → planFor a start capacity size ≡ planFor b start capacity size
+  unfolding planFor startFor
+  plan-same start capacity size = rw (ticks-same, e)
 
 -- ---- the list in the columns
 
@@ -117,7 +146,7 @@ module _ (t : Table) (capacity : ℕ) (few : capacity ≤ 4096) (until : Until) 
       }
 
   -- and it is the list's own
-  pub way-held : 1 ≤ length list → path (linked (after .actions) (after .parents)) (length list - 1) ≡ wayOf t list
+  pub way-held : 1 ≤ length list → path (linked (after .actions) (after .parents)) (length list - 1) ≡ path (listing D list) (length list - 1)
   way-held some = sym (way-is (length list - 1) (omega arith))
 
 -- ---- from the size of a list and its tree to what a plan has to tell
@@ -131,13 +160,28 @@ covered-told start (covered m) l e = ap covered (accepted-same e)
 pub columns-few : (before : Columns) → room before ≤ 4096
 columns-few t = capacity-most (length (t .conditions)) (length (t .actions)) (length (t .parents)) (length (t .depths))
 
+-- Document 02, W5: the jobs that ticks name from a start are those from the entry that covers it along the parents to entry 0.
+module _ (table : List ℕ) (b : AreBytes table) (t : Table) (e : readTable table ≡ accepted t) (start : ℕ) (is-state : T (within (t .facts) start))
+    (capacity : ℕ) (few : capacity ≤ 4096) where
+  pub way-is-path : (l : List (Entry Condition)) → factPlan (tableActions t) (t .goal) capacity (endedBy (Covers start)) ≡ covered l
+      → wayOf (tickOn table) t start l ≡ path (listing (tableDomain t) l) (length l - 1)
+  way-is-path l c =
+      let D = tableDomain t in
+      let P = listing D l in
+      let n = fact-start-first (tableActions t) (t .goal) capacity start l c in
+      let f = list-works table b t e capacity (Covers start) few l (omega (arith, n .1)) (ap entries c) .best start is-state
+      (first-covered D P (length l) start (n .0) (n .2)) in
+      let last : f .entry ≡ length l - 1 = omega (arith, n .1, first-unique D P (length l) start (f .entry) (n .0) (f .first) (n .2)) in
+      f .names (length l) ∙ take-all (length l) (path P (f .entry)) (omega (arith, path-short P (f .entry), n .1, last)) ∙ ap (path P) last
+
 module _ (t : Table) (start : ℕ) (before after : Columns) (few : room before ≤ 4096) (lent tree : List ℕ) (size : Size)
     (W : WritesPlan (tablePlan (Covers start) t (room before) (length lent) sizeOf) before after lent tree (accepted size)) where
   abbrev ending : Outcome Condition
   ending = factPlan (tableActions t) (t .goal) (room before) (endedBy (Covers start))
 
-  -- the list that was built, and that it has an entry
+  -- the list that was built, that the start ended it, and that it has an entry
   record Found : Type 0 where
+    ended : ending ≡ covered (entries ending)
     sized : size ≡ sizeOf (entries ending)
     some : 1 ≤ length (entries ending)
     tables : after ≡ written (entries ending) before
@@ -147,8 +191,10 @@ module _ (t : Table) (start : ℕ) (before after : Columns) (few : room before �
   found =
       let w = whole-told (Covers start) (length lent) sizeOf ending size (sym (W .answer-and-tree .answer)) in
       let l = listed-entries (Covers start) ending (w .list) (w .listed) in
-      let n = fact-start-first (tableActions t) (t .goal) (room before) start (w .list) (covered-told start ending (w .list) (w .listed)) in
+      let c = covered-told start ending (w .list) (w .listed) in
+      let n = fact-start-first (tableActions t) (t .goal) (room before) start (w .list) c in
       record {
+        ended = c ∙ ap covered l;
         sized = w .told-is ∙ ap sizeOf l;
         some = omega (arith, n .1, ap length l);
         tables = W .tables ∙ ap (λ (m : List (Entry Condition)). written m before) (plan-list (Covers start) (length lent) sizeOf ending);
@@ -161,15 +207,18 @@ module _ (t : Table) (start : ℕ) (before after : Columns) (few : room before �
   abbrev way : List ℕ
   way = path (linked (after .actions) (after .parents)) (size .entries - 1)
 
-  writes-summary : WritesPlan (tablePlan (Covers start) t (room before) (length lent) (summaryOf t)) before after lent tree
+  writes-summary : (table : List ℕ) → AreBytes table → readTable table ≡ accepted t → T (within (t .facts) start)
+      → WritesPlan (tablePlan (Covers start) t (room before) (length lent) (summaryOf (tickOn table) t start)) before after lent tree
       (accepted (record { entries = size .entries; bytes = size .bytes; jobs = length way; minutes = nearest (secondsOf (t .jobs) way) }))
   unfolding tablePlan
-  writes-summary =
-      writes-other (Covers start) (length lent) sizeOf (summaryOf t) ending before after lent tree size _ W
+  writes-summary table b e is-state =
+      writes-other (Covers start) (length lent) sizeOf (summaryOf (tickOn table) t start) ending before after lent tree size _ W
       (λ l s q. rw (way-found, s, q))
     where
-      way-found : way ≡ wayOf t (entries ending)
-      way-found = rw (found .sized, found .tables) (way-held t (room before) few (Covers start) before (found .some))
+      way-found : way ≡ wayOf (tickOn table) t start (entries ending)
+      way-found =
+          rw (found .sized, found .tables) (way-held t (room before) few (Covers start) before (found .some))
+          ∙ sym (way-is-path table b t e start is-state (room before) few (entries ending) (found .ended))
 
 -- ---- what the parts leave is the plan
 
@@ -181,17 +230,18 @@ module _ (table : List ℕ) (start : Reading) (t : Table) (e : accepted t ≡ st
   unfolding tablePlan
   plan-stopped n p b =
       rw (← plan-started table start (room before) (length lent) t e)
-      (writes-refused (Covers (start .held)) (length lent) sizeOf (summaryOf t)
+      (writes-refused (Covers (start .held)) (length lent) sizeOf (summaryOf (tickOn table) t (start .held))
       (factPlan (tableActions t) (t .goal) (room before) (endedBy (Covers (start .held)))) before after lent tree n p (rw b at W))
 
   -- the way of the last entry can be followed in the columns
   pub plan-traced : (size : Size) → built ≡ accepted size → Traced (length (t .jobs)) (size .entries) (after .actions) (after .parents) (after .depths)
   plan-traced size b = size-traced t (start .held) before after (columns-few before) lent tree size (rw b at W)
 
-  pub plan-built : (size : Size) → built ≡ accepted size → (told : Summary)
+  pub plan-built : AreBytes table → (size : Size) → built ≡ accepted size → (told : Summary)
       → (let way = path (linked (after .actions) (after .parents)) (size .entries - 1) in
       told ≡ record { entries = size .entries; bytes = size .bytes; jobs = length way; minutes = nearest (secondsOf (t .jobs) way) })
       → WritesPlan (planFor table start (room before) (length lent)) before after lent tree (accepted told)
-  plan-built size b told s =
+  plan-built bytes size b told s =
       rw (← plan-started table start (room before) (length lent) t e, s)
-      (writes-summary t (start .held) before after (columns-few before) lent tree size (rw b at W))
+      (writes-summary t (start .held) before after (columns-few before) lent tree size (rw b at W) table bytes (start-table table start t (sym e))
+      (start-within table start t (sym e)))

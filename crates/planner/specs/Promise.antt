@@ -1,6 +1,6 @@
 -- What the plan for a start promises: demand 3.
 -- Definitions only; PromiseLaws.antt shows that every plan keeps it.
-use Prim.Native.Nat.{ℕ, suc}
+use Prim.Native.Nat.{ℕ, suc, _-_}
 use mathlib.Core.Path.{_≡_}
 use mathlib.Core.Bool.{true}
 use mathlib.Core.List.{List}
@@ -12,13 +12,16 @@ use Rattle.reading.specs.Reading.{sound}
 use Rattle.table.specs.Table.{Table}
 use Rattle.table.specs.Read.{readTable}
 use Rattle.planning.specs.Sequence.{Reaches}
+use Rattle.planning.specs.Listing.{path}
+use Rattle.planning.specs.Expansion.{listing}
 use Rattle.planning.specs.Demand.{FirstIn}
 use Rattle.expander.specs.Expands.{Columns, room}
+use Rattle.runs.specs.Runs.{tickOn}
 use Rattle.builder.specs.Plan.{tableDomain, Plan, WritesPlan}
 use Rattle.builder.specs.Works.{FewestJobs, Irredundant, NoRoom}
 use Rattle.planner.specs.declared.Summary.{Summary}
 use Rattle.planner.specs.declared.Planned.{Planned}
-use Rattle.planner.specs.Plan.{planFor, plannedOf}
+use Rattle.planner.specs.Plan.{wayOf, planFor, plannedOf}
 
 -- Of the table t that was read from the bytes, a start, and the plan P with room for so many entries and so many bytes of a tree:
 pub record Keeps (t : Table) (table : List ℕ) (start : Reading) (capacity room : ℕ) (P : Plan Summary) : Type 0 where
@@ -32,7 +35,10 @@ pub record Keeps (t : Table) (table : List ℕ) (start : Reading) (capacity room
   pub no-way : (p : ℕ) → P .answer ≡ refused 11 p → (w : List ℕ) → Reaches (tableDomain t) (start .held) w → ⊥
   -- the start is covered, and the last entry is the first that it meets
   pub start-covered : (p : Summary) → P .answer ≡ accepted p → (i : ℕ) × (p .entries ≡ suc i) × FirstIn (tableDomain t) (P .list) (start .held) i
-  -- so it is in every list that is stored, also where 10, 11 or 12 is the answer
+  -- document 02, W5, "this changes nothing printed": the way is that "from the covering entry along parents to entry 0" of document 01
+  pub way : (p : Summary) → P .answer ≡ accepted p
+      → wayOf (tickOn table) t (start .held) (P .list) ≡ path (listing (tableDomain t) (P .list)) (p .entries - 1)
+  -- no line is dead, in every list that is stored, also where 10, 11 or 12 is the answer
   pub irredundant : Irredundant t (P .list)
 
 -- What the planner's entry point gives: the plan of the definition in every lent slice, and the promises about it.

@@ -7,7 +7,7 @@ use native.Mathlib.Omega.{arith}
 use mathlib.Core.Path.{_≡_, refl, sym, ap, _∙_}
 use mathlib.Core.Bool.{Bool, true, false}
 use mathlib.Core.List.{List, [], _∷_, _++_}
-use Prim.Native.Nat.{ℕ, zero, suc, _+_, _*_, _≤_, min}
+use Prim.Native.Nat.{ℕ, zero, suc, _+_, _*_, _≤_}
 use lib.Dec.{eqb, leb}
 use lib.ListN.{length, getD, take, drop, length-append, length-drop, List·getD-append, take-append-drop}
 use lib.Seq.{take-append-le, drop-append-le, take-all, length-take-le}
@@ -27,8 +27,8 @@ use Rattle.job.specs.Job.{jobAt}
 use Rattle.job.specs.Validation.{validatedJob}
 use Rattle.table.specs.Read.{allowed, dueIn, due, readEnd, readGoal, readJobs, readTable, factsInRange}
 use Rattle.table.specs.ReadLaws.{facts-inside, end-inside, goal-inside, job-inside}
-use Rattle.planner.specs.Plan.{startFor, planFor}
-use Rattle.program_text.specs.Program.{startSize, filesPlan, programText}
+use Rattle.planner.specs.PlanLaws.{plan-same}
+use Rattle.program_text.specs.Program.{capacity, treeRoom, startSize, startOf, filesPlan, programText}
 use Rattle.program_text.specs.Files.{widestIn, widest, tableFront, startFront, Holds}
 
 -- ---- no command that may stand at a stage is wider than the widest
@@ -173,9 +173,10 @@ module _ (buffer file : List ℕ) (count : ℕ) (k : Holds buffer count file) wh
 module _ {table start tableFile startFile : List ℕ} {n m : ℕ} where
   pub text-held : Holds table n tableFile → Holds start m startFile → tableFront ≤ length table → startFront ≤ length start
       → programText (take n table) (take m start) ≡ programText tableFile startFile
-  unfolding programText filesPlan planFor startFor
+  unfolding programText filesPlan
   text-held t s h k =
-      rw (table-held table tableFile n t h)
+      let same = table-held table tableFile n t h in
+      rw (plan-same (take n table) tableFile same (startOf (take m start)) capacity treeRoom, same)
       (elim (decLe (length startFile) (length start)) [
         | yes l ↦ rw (held-whole start startFile m s l)
         | no l ↦

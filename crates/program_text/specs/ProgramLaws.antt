@@ -21,8 +21,7 @@ use Rattle.conditions.specs.Condition.{satisfied}
 use Rattle.planning.specs.Facts.{startPlan}
 use Rattle.planning.specs.FactLaws.{fact-plannable}
 use Rattle.planning.specs.DemandLaws.{planned-fits}
-use Rattle.plan_text.specs.Text.{planText, refusedText}
-use Rattle.plan_text.specs.Writes.{Wrote, shown}
+use Rattle.plan_text.specs.Writes.{Wrote}
 use Rattle.plan_text.specs.TextLaws.{wrote-whole}
 use Rattle.expander.specs.declared.Until.the-variants.{Covers}
 use Rattle.expander.specs.Expands.{Columns, capacityOf, room, held, written}
@@ -30,11 +29,10 @@ use Rattle.expander.specs.ExpandsLaws.{over-long, written-held}
 use Rattle.planner.specs.declared.Planned.{Planned}
 use Rattle.planner.specs.declared.Planned.the-variants as P
 use Rattle.planner.specs.declared.Summary.{Summary}
-use Rattle.refusal.specs.declared.Refusal.{Refusal}
-use Rattle.refusal.specs.Numbers.{numberOf}
 use Rattle.planner.specs.Promise.{Plans}
 use Rattle.builder.specs.Plan.{Plan, noPlan, planBy, tablePlan, afterChecks, tableActions}
 use Rattle.builder.specs.PlanLaws.{plan-list, whole-told}
+use Rattle.runs.specs.Runs.{tickOn}
 use Rattle.planner.specs.Plan.{summaryOf, startFor, planFor, plannedOf}
 use Rattle.program_text.specs.Shows.{Shows, PlannedFrom, shownIn, entriesIn, plannedText}
 use Rattle.program_text.specs.Program.{answerText, textOf, programText, capacity, treeRoom, startSize, startOf, filesPlan}
@@ -57,7 +55,7 @@ plan-unsound table r h capacity room = by (readTable table)
   where
     by : (c : Checked Table)
         → afterChecks (andThen c λ t. andThen (checkedStart (t .facts) r) λ s. accepted t)
-        (λ t. tablePlan (Covers (r .held)) t capacity room (summaryOf t))
+        (λ t. tablePlan (Covers (r .held)) t capacity room (summaryOf (tickOn table) t (r .held)))
         ≡ afterChecks c (λ t. noPlan 8 0)
     by (accepted t) = rw (← start-unsound (t .facts) r (h (t .facts)))
     by (refused n p) = refl
@@ -74,13 +72,13 @@ unfolding planFor tablePlan
 plan-lists capacity room s table start = by (startFor table start)
   where
     by : (c : Checked Table)
-        → afterChecks c (λ t. planBy (Covers (start .held)) room (summaryOf t) (startPlan (tableActions t) (t .goal) capacity (start .held))) .answer ≡ accepted s
-        → ListOf (afterChecks c (λ t. planBy (Covers (start .held)) room (summaryOf t) (startPlan (tableActions t) (t .goal) capacity (start .held)))) s capacity
+        → afterChecks c (λ t. planBy (Covers (start .held)) room (summaryOf (tickOn table) t (start .held)) (startPlan (tableActions t) (t .goal) capacity (start .held))) .answer ≡ accepted s
+        → ListOf (afterChecks c (λ t. planBy (Covers (start .held)) room (summaryOf (tickOn table) t (start .held)) (startPlan (tableActions t) (t .goal) capacity (start .held)))) s capacity
     by (refused n p) e = absurd (not-both e)
     by (accepted t) e =
         let o = startPlan (tableActions t) (t .goal) capacity (start .held) in
-        let w = whole-told (Covers (start .held)) room (summaryOf t) o s e in
-        let listed = plan-list (Covers (start .held)) room (summaryOf t) o in
+        let w = whole-told (Covers (start .held)) room (summaryOf (tickOn table) t (start .held)) o s e in
+        let listed = plan-list (Covers (start .held)) room (summaryOf (tickOn table) t (start .held)) o in
         record {
           size = ap (λ (x : Summary). x .entries) (w .told-is) ∙ sym (ap (λ (P : Plan Summary). length (P .list)) (w .plan-is));
           fits = omega (arith, ap length listed, planned-fits (fact-plannable (tableActions t) (t .goal)) capacity (λ c. satisfied c (start .held)));

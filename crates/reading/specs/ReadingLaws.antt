@@ -2,13 +2,13 @@
 -- Assumes nothing.
 use Prim.Native.Nat.{ℕ}
 use native.Mathlib.Omega.{arith}
-use mathlib.Core.Path.{_≡_}
+use mathlib.Core.Path.{_≡_, refl}
 use mathlib.Core.Bool.{Bool, true, false, not}
 use lib.Dec.{T, eqb}
 use borrow.Author.Tests.{eq-eqb, ne-eqb}
 use Rattle.base.specs.Bools.{if_then_else_, and-intro, and-left, and-right}
 use Rattle.refusal.specs.Checked.{Checked, accepted, refused, andThen}
-use Rattle.refusal.specs.CheckedLaws.{accepted-if, accepted-same}
+use Rattle.refusal.specs.CheckedLaws.{accepted-if, accepted-same, accepted-then}
 use Rattle.masks.specs.Sets.{intersects, union, within}
 use Rattle.masks.specs.Bits.{bit-le, bit-union, bit-empty, subset-bits, bits-subset, bits-disjoint}
 use Rattle.masks.specs.Laws.{subset-refl, subset-antisym, subset-union-left, within-subset, within-union, within-empty}
@@ -43,17 +43,22 @@ module _ (f : ℕ) (r : Reading) where
     checked-told s e = let (h, same) = accepted-if (sound f r) (accepted r) 8 place s e in (h, accepted-same same)
 
   -- a start for planning: what holds of both refusals and of the start itself holds of its check
-  pub start-cases : (P : Checked Reading → Type 0) → P (refused 8 0) → P (refused 9 0) → P (accepted r) → P (checkedStart f r)
+  pub start-cases : (P : Checked Reading → Type 0) → P (refused 8 0) → P (refused 9 0) → (sound f r ≡ true → P (accepted r)) → P (checkedStart f r)
   unfolding checkedStart checkedAt
-  start-cases P bad unread whole = by-sound (sound f r)
+  start-cases P bad unread whole = by-sound (sound f r) refl
     where
-      by-unread : (b : Bool) → P (if b then accepted r else refused 9 0)
-      by-unread true = whole
-      by-unread false = unread
+      by-unread : sound f r ≡ true → (b : Bool) → P (if b then accepted r else refused 9 0)
+      by-unread e true = whole e
+      by-unread e false = unread
 
-      by-sound : (b : Bool) → P (andThen (if b then accepted r else refused 8 0) λ s. if eqb (s .unread) 0 then accepted s else refused 9 0)
-      by-sound true = by-unread (eqb (r .unread) 0)
-      by-sound false = bad
+      by-sound : (b : Bool) → sound f r ≡ b → P (andThen (if b then accepted r else refused 8 0) λ s. if eqb (s .unread) 0 then accepted s else refused 9 0)
+      by-sound true e = by-unread e (eqb (r .unread) 0)
+      by-sound false e = bad
+
+  -- one that passed is sound
+  pub start-told : (s : Reading) → checkedStart f r ≡ accepted s → sound f r ≡ true
+  unfolding checkedStart
+  start-told s e = let w = accepted-then (checkedAt f 0 r) _ s e in checked-told 0 (w .0) (w .1) .0
 
   pub start-unsound : sound f r ≡ false → refused 8 0 ≡ checkedStart f r
   unfolding checkedStart

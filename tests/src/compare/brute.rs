@@ -50,15 +50,17 @@ pub fn run(bytes: &[u8], table: &Table, tree: &[u8], state: u64) -> (Vec<u8>, bo
 }
 
 /// Demand 3 on a list and its tree: from every state that the list covers the run ends with Success after the fewest jobs, which are as many as
-/// the first entry met is deep; from every other it fails at once.
+/// the first entry met is deep, and W5: they are "in order, those from the first entry met along its parents to entry 0, and no others". From
+/// every other state it fails at once.
 pub fn check_runs(bytes: &[u8], table: &Table, list: &[Entry], tree: &[u8], distance: &[Option<usize>]) {
     for state in 0..1u64 << table.facts {
         let (jobs, success) = run(bytes, table, tree, state);
-        match list.iter().find(|entry| is_part(entry.condition, state)) {
-            Some(entry) => {
+        match list.iter().position(|entry| is_part(entry.condition, state)) {
+            Some(first) => {
                 assert!(success, "the run from {state:x} does not reach the goal");
                 assert_eq!(Some(jobs.len()), distance[state as usize], "jobs of the run from {state:x}");
-                assert_eq!(jobs.len(), usize::from(entry.depth));
+                assert_eq!(jobs.len(), usize::from(list[first].depth));
+                assert_eq!(jobs, way_from(list, first), "the way from {state:x}");
             }
             None => assert_eq!((jobs.len(), success), (0, false)),
         }

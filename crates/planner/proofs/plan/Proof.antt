@@ -5,7 +5,7 @@ use borrow.Author.Needs.{needs}
 use Rattle.refusal.specs.Checked.{accepted}
 use Rattle.numbers.specs.Numbers.{AreBytes}
 use Rattle.table.specs.Table.{Table}
-use Rattle.table.specs.Read.{readTable, jobsOf, headerOf, headed, tableReadOf}
+use Rattle.table.specs.Read.{readTable, headerOf, headed, tableReadOf}
 use Rattle.table.specs.ReadLaws.{headed-sound, headed-refused}
 use Rattle.builder.specs.Plan.{builtOf}
 use Rattle.builder.specs.PlanLaws.{writes-nothing}
@@ -157,7 +157,7 @@ returns-3 c =
     let a = start-of (checked-of p) .args in
     plan-kept (a .table .now) (bytes (checked-of p)) (a .start) _ _ _ _ _
     (plan-built (a .table .now) (a .start) (started p .0) (started p .1) _ _ (a .tree .now) _ _ (built-of b .build .ensures (started p .0) (table-is p))
-    _ (ap builtOf (w .size .given .1)) _ (rw (← table-is p) at (c .summarize .ensures)))
+    (bytes (checked-of p)) _ (ap builtOf (w .size .given .1)) _ (rw (← table-is p) at (c .summarize .ensures)))
 
 pub plan-spec : {M : Type 1} → statement M
 plan-spec =

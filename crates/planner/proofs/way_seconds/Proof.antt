@@ -97,7 +97,7 @@ loop-again c =
 
 returns : tie.Need-returns Inv-loop μ-loop
 returns c =
-    let z : c .before .loop .i ≡ 0 = c .loop-test .left in
+    let z : c .before .loop .i ≡ 0 = omega (arith, c .loop-test .left) in
     omega (arith, rw z at (c .before .loop .inv .1))
 
 pub way-seconds-spec : {M : Type 1} → statement M
