@@ -22,7 +22,7 @@ use Rattle.expander.specs.declared.Expanded.{Expanded}
 use Rattle.expander.specs.declared.Expanded.the-variants as X
 use Rattle.expander.specs.declared.Until.{Until}
 use Rattle.expander.specs.declared.Until.the-variants as U
-use Rattle.expander.specs.Expands.{Columns, over, written, room, held, endedBy, planIn, expandedOf, listedBy, outcomeOf, Expands}
+use Rattle.expander.specs.Expands.{Columns, over, written, room, held, planIn, expandedOf, listedBy, Expands}
 use Rattle.expander.specs.ExpandsLaws.{stored, list-held, list-length, held-length, stored-small, exhausted-some, covered-some, over-long}
 use Rattle.flat.specs.TreeBytes.{treeBytes, treeEntries}
 use Rattle.flat.specs.FlatTreeLaws.{tree-columns}

@@ -1,17 +1,16 @@
 -- Every list of a table's goal and its tree, whatever ended the list, keeps demand 3 and what every tick keeps.
 -- Assumes nothing.
-use Prim.Native.Nat.{ℕ, zero, suc, _≤_, _<_}
-use native.Mathlib.Nat.{not-suc-le-zero}
+use Prim.Native.Nat.{ℕ, suc, _≤_, _<_}
 use native.Mathlib.Omega.{arith}
 use mathlib.Core.Path.{_≡_, refl, sym, ap, _∙_, subst}
-use mathlib.Core.Bool.{Bool, true, not}
+use mathlib.Core.Bool.{true, not}
 use mathlib.Core.List.{List, [], _∷_}
 use mathlib.Core.Logic.{_↔_, _⊎_, inl, inr, ⊎-elim}
 use lib.Dec.{T, leb, leb→le}
-use lib.ListN.{length, getD}
+use lib.ListN.{length}
 use Rattle.base.specs.Bools.{holds, is-true, and-right}
 use Rattle.masks.specs.Sets.{intersects, within}
-use Rattle.refusal.specs.Checked.{Checked, accepted, refused}
+use Rattle.refusal.specs.Checked.{accepted, refused}
 use Rattle.refusal.specs.CheckedLaws.{not-both, accepted-same}
 use Rattle.reading.specs.declared.Reading.{Reading}
 use Rattle.reading.specs.Reading.{sound, Completes, state}
@@ -44,9 +43,9 @@ use Rattle.flat.specs.FlatTickLaws.{tick-agrees, unsettled-differ, action-named
 use Rattle.expander.specs.declared.Until.{Until}
 use Rattle.expander.specs.declared.Until.the-variants as U
 use Rattle.expander.specs.Expands.{endedBy, listedBy}
-use Rattle.builder.specs.Plan.{jobOf, tableActions, tableDomain, Plan, planBy}
+use Rattle.builder.specs.Plan.{jobOf, tableActions, tableDomain, planBy}
 use Rattle.builder.specs.PlanLaws.{listed-entries, plan-list, refused-told}
-use Rattle.builder.specs.Works.{Ticks, Works, FewestJobs, Irredundant, NoRoom}
+use Rattle.builder.specs.Works.{Ticks, FewestJobs, Irredundant, NoRoom}
 
 -- ---- the tick of a list's tree, where the list has at least an entry
 

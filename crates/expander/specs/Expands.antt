@@ -4,7 +4,7 @@ use mathlib.Core.Path.{_≡_}
 use mathlib.Core.Bool.{Bool, false}
 use mathlib.Core.List.{List, _++_, map}
 use Prim.Native.Nat.{ℕ, min}
-use lib.ListN.{length, getD, drop}
+use lib.ListN.{length, drop}
 use Rattle.refusal.specs.Checked.{Checked, accepted, refused, andThen}
 use Rattle.conditions.specs.Condition.{Condition, satisfied, actionAt}
 use Rattle.planning.specs.Expansion.{Entry, Outcome, exhausted, covered, full, entries}

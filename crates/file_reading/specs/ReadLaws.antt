@@ -7,7 +7,6 @@ use mathlib.Core.Bool.{true, false}
 use Prim.Native.Nat.{ℕ, zero, suc, _+_, _-_, _≤_, _<_, min}
 use lib.IntN.{ℤ, pos, negsuc, natAbs}
 use lib.Signed.{ltZ}
-use Rattle.file_reading.specs.declared.Progress.{Progress}
 use Rattle.file_reading.specs.declared.Progress.the-variants.{Ended, Going}
 use Rattle.file_reading.specs.Reads.{afterRead}
 

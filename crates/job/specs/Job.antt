@@ -1,7 +1,7 @@
 -- One job, and its bytes: document 01, "Commands".
 -- Definitions only.
 use Prim.Native.Nat.{ℕ, _+_, _^_, _<_}
-use mathlib.Core.List.{List, [], _∷_, _++_}
+use mathlib.Core.List.{List, _∷_, _++_}
 use lib.ListN.{length}
 use Rattle.commands.specs.Commands.{JOB, NEEDS-AT, ADDS-AT, DELETES-AT, SECONDS-AT, Past}
 use Rattle.numbers.specs.Numbers.{toBytes, numberAt}

@@ -2,7 +2,7 @@
 -- Assumes nothing.
 use Prim.Native.Nat.{ℕ, _≤_}
 use native.Mathlib.Omega.{arith}
-use mathlib.Core.Path.{_≡_, refl, sym, ap, _∙_}
+use mathlib.Core.Path.{_≡_, refl, sym, ap}
 use mathlib.Core.Bool.{false}
 use mathlib.Core.List.{List}
 use mathlib.Core.Logic.{_↔_, ⊎-elim}
@@ -26,7 +26,7 @@ use Rattle.builder.specs.declared.Size.{Size}
 use Rattle.builder.specs.declared.Built.{Built}
 use Rattle.builder.specs.Plan.{tableActions, tableDomain, Plan, noPlan, planBy, tablePlan, sizeOf, builtOf, WritesPlan}
 use Rattle.builder.specs.PlanLaws.{plan-list, whole-told}
-use Rattle.builder.specs.Works.{FewestJobs, Irredundant, NoRoom}
+use Rattle.builder.specs.Works.{FewestJobs, NoRoom}
 use Rattle.builder.specs.WorksLaws.{list-irredundant, list-works, plan-stops}
 use Rattle.shift_planner.specs.Shift.{planShift, Serves, PlansShift}
 

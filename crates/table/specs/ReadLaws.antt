@@ -10,7 +10,7 @@ use lib.Dec.{eqb}
 use lib.ListN.{length, getD}
 use Rattle.base.specs.Bools.{if_then_else_}
 use Rattle.masks.specs.Sets.{within}
-use Rattle.refusal.specs.Checked.{Checked, accepted, refused, andThen}
+use Rattle.refusal.specs.Checked.{Checked, accepted, refused}
 use Rattle.refusal.specs.CheckedLaws.{not-both, accepted-same}
 use Rattle.commands.specs.declared.Found.{Found}
 use Rattle.commands.specs.declared.Found.the-variants.{Missing, Unknown, Cut, Whole}
@@ -26,7 +26,7 @@ use Rattle.table.specs.declared.Header.{Header}
 use Rattle.table.specs.declared.Stage.{Stage}
 use Rattle.table.specs.declared.Stage.the-variants.{First, Middle, Last}
 use Rattle.table.specs.Table.{Table, maxJobs}
-use Rattle.table.specs.Read.{allowed, dueIn, due, factsInRange, readEnd, readGoal, readJobs, readTable, jobsOf, namedJob, headerOf, headed}
+use Rattle.table.specs.Read.{allowed, dueIn, due, factsInRange, readEnd, readGoal, readJobs, readTable, namedJob, headerOf, headed}
 
 -- ---- the command that is due
 

@@ -17,7 +17,7 @@ use Rattle.refusal.specs.Checked.{Checked, accepted, refused, andThen}
 use Rattle.refusal.specs.CheckedLaws.{not-both, accepted-same, accepted-then, accepted-if}
 use Rattle.commands.specs.declared.Found.the-variants.{Whole}
 use Rattle.commands.specs.declared.Width.the-variants.{Bytes}
-use Rattle.commands.specs.Commands.{FACTS, JOB, GOAL, END-OF-TABLE, FACTS-SIZE, JOB-SIZE, GOAL-SIZE, END-OF-TABLE-SIZE, OPERANDS-AT, Past, widthOf, commandAt}
+use Rattle.commands.specs.Commands.{FACTS, JOB, GOAL, END-OF-TABLE, FACTS-SIZE, GOAL-SIZE, END-OF-TABLE-SIZE, OPERANDS-AT, Past, widthOf, commandAt}
 use Rattle.commands.specs.CommandLaws.{at-whole}
 use Rattle.numbers.specs.Numbers.{AreBytes, toBytes, numberAt}
 use Rattle.numbers.specs.NumberLaws.{from-to, to-length, read-drop, number-lt, byte-there, number-there}

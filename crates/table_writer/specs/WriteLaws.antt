@@ -27,9 +27,9 @@ use Rattle.table.specs.Table.{Table, maxFacts, maxJobs, jobsBytes, goalBytes, t
 use Rattle.table.specs.Read.{factsInRange}
 use Rattle.table.specs.Sound.{Storable, validatedFrom, validatedTable}
 use Rattle.table.specs.RoundTripLaws.{read-written, validated-table}
-use Rattle.table.specs.OffsetLaws.{jobs-snoc, last-offset, next-offset, offset-small, offset-within}
+use Rattle.table.specs.OffsetLaws.{jobs-snoc, last-offset, next-offset, offset-small}
 use Rattle.table_writer.specs.declared.TableWritten.{TableWritten}
-use Rattle.table_writer.specs.Write.{even, rowAt, rows, tableOf, written, short, uneven, unsound, writing, lentAfter, tableWrittenOf, Wrote, placed}
+use Rattle.table_writer.specs.Write.{even, rowAt, rows, tableOf, writing, lentAfter, tableWrittenOf, Wrote, placed}
 
 -- ---- even columns
 

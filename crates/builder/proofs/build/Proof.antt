@@ -2,14 +2,12 @@
 -- Assumes nothing.
 use native.Mathlib.Omega.{arith}
 use mathlib.Core.Path.{_≡_, refl, sym, ap, _∙_}
-use Prim.Native.Nat.{ℕ}
 use borrow.Author.Needs.{needs}
 use Rattle.refusal.specs.Checked.{accepted}
-use Rattle.table.specs.Table.{Table}
 use Rattle.table.specs.Read.{readTable}
 use Rattle.table.specs.ReadLaws.{headed-sound}
 use Rattle.expander.specs.Expands.{expandedOf}
-use Rattle.builder.specs.Plan.{sizeOf, listedOf, builtOf}
+use Rattle.builder.specs.Plan.{sizeOf, listedOf}
 use Rattle.builder.specs.PlanLaws.{ended-stored, ended-some, list-stands, writes-list, writes-built}
 use Rattle.builder.proofs.build.Statement.{statement}
 use Rattle.builder.proofs.build.Tie as tie

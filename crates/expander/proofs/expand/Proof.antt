@@ -7,7 +7,6 @@ use borrow.Author.Needs.{needs}
 use lib.ListN.{getD, length-set}
 use Rattle.base.specs.Bools.{holds, fails}
 use Rattle.conditions.specs.declared.Action.{Action}
-use Rattle.conditions.specs.declared.Found.the-variants.{Nowhere}
 use Rattle.conditions.specs.Condition.{Condition, relevant, regressed}
 use Rattle.conditions.specs.Search.{newestWeaker}
 use Rattle.conditions.specs.SearchLaws.{found-nowhere}

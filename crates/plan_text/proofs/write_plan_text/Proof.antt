@@ -1,7 +1,7 @@
 -- `plan_text::write_plan_text` meets its contract: one part after another, from the beginning.
 -- Assumes nothing.
 use borrow.Author.Needs.{needs}
-use mathlib.Core.Path.{_≡_, ap, _∙_}
+use mathlib.Core.Path.{ap, _∙_}
 use Prim.Native.Nat.{min}
 use Rattle.plan_text.specs.Text.{planText}
 use Rattle.text_fields.specs.PutLaws.{put-then}

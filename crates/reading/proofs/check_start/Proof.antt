@@ -2,9 +2,8 @@
 -- Assumes nothing.
 use borrow.Author.Needs.{needs}
 use borrow.Author.Tests.{not-true, not-false}
-use mathlib.Core.Path.{_≡_, sym, ap, _∙_}
-use mathlib.Core.Bool.{true}
-use Rattle.reading.specs.Reading.{sound, readingOf}
+use mathlib.Core.Path.{sym, ap, _∙_}
+use Rattle.reading.specs.Reading.{readingOf}
 use Rattle.reading.specs.ReadingLaws.{start-unsound, start-unread, start-sound}
 use Rattle.reading.proofs.check_start.Statement.{statement}
 use Rattle.reading.proofs.check_start.Tie as tie

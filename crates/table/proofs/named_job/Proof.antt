@@ -6,7 +6,7 @@ use lib.ListN.{length}
 use Rattle.refusal.specs.Checked.{accepted}
 use Rattle.refusal.specs.CheckedLaws.{accepted-same}
 use Rattle.table.specs.Table.{Table}
-use Rattle.table.specs.Read.{readTable, headed, headerOf}
+use Rattle.table.specs.Read.{readTable, headed}
 use Rattle.table.specs.ReadLaws.{headed-sound, named-job, named-none}
 use Rattle.table.proofs.named_job.Statement.{statement}
 use Rattle.table.proofs.named_job.Tie as tie

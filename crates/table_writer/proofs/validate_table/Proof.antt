@@ -10,7 +10,7 @@ use lib.ListN.{length, getD}
 use borrow.Author.Tests.{not-true, not-false}
 use Rattle.refusal.specs.Checked.{accepted}
 use Rattle.job.specs.declared.Job.{Job}
-use Rattle.job.specs.Job.{noJob, jobSize}
+use Rattle.job.specs.Job.{noJob}
 use Rattle.job.specs.Validation.{validatedOf}
 use Rattle.table.specs.Table.{Table, maxJobs, offsetOf}
 use Rattle.table.specs.Sound.{validatedTable}
