@@ -75,7 +75,10 @@ enum bay_refusal {
 
     /* Of bay_write_table alone. */
     BAY_TOO_SHORT = 100, /* the lent slice is shorter than the table */
-    BAY_UNEVEN = 101     /* the columns differ in length */
+    BAY_UNEVEN = 101,    /* the columns differ in length */
+
+    /* Of bay_report alone, before anything else is looked at. */
+    BAY_SECONDS_OUT_OF_RANGE = 102 /* more than 65,535 seconds are reported */
 };
 
 /* ---- what the inline functions take and give */
@@ -365,11 +368,12 @@ static inline struct bay_done bay_card_read_outside(struct bay_card *card, struc
     return bay_answer_done(answer);
 }
 
-/* Reports a finished job and the seconds that it took. A number that names no job is 16. answer: 0, 0. */
-uint64_t bay_report(const uint8_t *table, size_t table_len, size_t job, uint16_t seconds, uint64_t *card_held,
+/* Reports a finished job and the seconds that it took. A number that names no job is 16, and more than 65,535 seconds are 102. answer:
+ * 0, 0. */
+uint64_t bay_report(const uint8_t *table, size_t table_len, size_t job, size_t seconds, uint64_t *card_held,
                     uint64_t *card_unread, uint16_t *card_reports, uint32_t *card_taken, uint32_t *card_planned, uint64_t answer[2]);
 
-static inline struct bay_done bay_card_report(struct bay_card *card, struct bay_table table, size_t job, uint16_t seconds) {
+static inline struct bay_done bay_card_report(struct bay_card *card, struct bay_table table, size_t job, size_t seconds) {
     uint64_t answer[2];
     bay_report(table.bytes, table.length, job, seconds, &card->held, &card->unread, &card->reports, &card->taken, &card->planned,
                answer);
@@ -377,10 +381,10 @@ static inline struct bay_done bay_card_report(struct bay_card *card, struct bay_
 }
 
 /* Taken minus planned, in whole minutes, nearest, an exact half to the even one; of every card, sound or not. */
-int64_t bay_lateness(uint32_t card_taken, uint32_t card_planned);
+int64_t bay_lateness(const uint32_t *card_taken, const uint32_t *card_planned);
 
 static inline int64_t bay_card_lateness(const struct bay_card *card) {
-    return bay_lateness(card->taken, card->planned);
+    return bay_lateness(&card->taken, &card->planned);
 }
 
 /* A tick on the card's masks, which are judged by 8; its counts are not judged. */

@@ -111,12 +111,12 @@ int main(int count, char **words) {
             return refused("job", job.refusal, job.place);
         }
         /* The fitter needs a tenth longer than listed. */
-        uint16_t seconds = (uint16_t)(job.seconds + job.seconds / 10);
+        size_t seconds = (size_t)job.seconds + job.seconds / 10;
         done = bay_card_report(&card, table, tick.job, seconds);
         if (done.refusal != BAY_OK) {
             return refused("report", done.refusal, done.place);
         }
-        printf("job %zu: listed %u seconds, taken %u, held %016" PRIx64 "\n", tick.job, (unsigned)job.seconds, (unsigned)seconds,
+        printf("job %zu: listed %u seconds, taken %zu, held %016" PRIx64 "\n", tick.job, (unsigned)job.seconds, seconds,
                card.held);
     }
     printf("card: %u reports, taken %" PRIu32 ", planned %" PRIu32 ", late by %" PRId64 " minutes\n", (unsigned)card.reports,

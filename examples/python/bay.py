@@ -53,6 +53,7 @@ class Refusal(enum.IntEnum):
     JOB_TOO_LONG = 19
     TOO_SHORT = 100
     UNEVEN = 101
+    SECONDS_OUT_OF_RANGE = 102
 
 
 class Status(enum.IntEnum):
@@ -167,7 +168,7 @@ _PARAMETERS = {
     "bay_tick": _SLICE * 2 + _MASKS + _ANSWER,
     "bay_open": _SLICE + _MASKS + _CARD + _ANSWER,
     "bay_read_outside": _SLICE + _MASKS + _CARD[:2] + _ANSWER,
-    "bay_report": _SLICE + [c_size_t, c_uint16] + _CARD + _ANSWER,
+    "bay_report": _SLICE + [c_size_t, c_size_t] + _CARD + _ANSWER,
 }
 
 
@@ -197,7 +198,7 @@ class Bay:
             function = getattr(self._library, name)
             function.argtypes = parameters
             function.restype = c_uint64
-        self._library.bay_lateness.argtypes = [c_uint32, c_uint32]
+        self._library.bay_lateness.argtypes = [POINTER(c_uint32), POINTER(c_uint32)]
         self._library.bay_lateness.restype = c_int64
 
     def _call(self, name, words, *arguments):
@@ -275,14 +276,14 @@ class Bay:
 
     def report(self, table, card, job, seconds) -> Card:
         parts = _CardParts(card)
-        job, seconds = _number("job", job, 64), _number("seconds", seconds, 16)
+        job, seconds = _number("job", job, 64), _number("seconds", seconds, 64)
         self._call("bay_report", 2, *_bytes("table", table), job, seconds, *parts.lent())
         return parts.card()
 
     def lateness(self, card) -> int:
         """Taken minus planned, in whole minutes, of every card."""
         taken, planned = _number("card.taken", card.taken, 32), _number("card.planned", card.planned, 32)
-        return self._library.bay_lateness(taken, planned)
+        return self._library.bay_lateness(byref(c_uint32(taken)), byref(c_uint32(planned)))
 
     def tick_card(self, table, tree, card) -> Tick:
         return self.tick(table, tree, Reading(card.held, card.unread))

@@ -61,6 +61,7 @@ class Ranges(unittest.TestCase):
                 yield lambda x, reading=reading: bay.open(table, reading(x))
                 yield lambda x, reading=reading: bay.read_outside(table, card, reading(x))
             yield lambda x: bay.report(table, card, x, 0)
+            yield lambda x: bay.report(table, card, 0, x)
             for name in ("held", "unread"):
                 yield lambda x, name=name: bay.read_outside(table, card._replace(**{name: x}), Reading())
                 yield lambda x, name=name: bay.report(table, card._replace(**{name: x}), 0, 0)
@@ -73,7 +74,6 @@ class Ranges(unittest.TestCase):
                 yield lambda x, name=name: bay.lateness(card._replace(**{name: x}))
         if bits == 16:
             yield lambda x: bay.write_table(1, [job, job._replace(seconds=x)], 0)
-            yield lambda x: bay.report(table, card, 0, x)
             yield lambda x: bay.report(table, card._replace(reports=x), 0, 0)
 
     def test_outside(self):

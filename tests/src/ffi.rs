@@ -92,7 +92,7 @@ extern "C" {
         table: *const u8,
         table_len: usize,
         job: usize,
-        seconds: u16,
+        seconds: usize,
         card_held: *mut u64,
         card_unread: *mut u64,
         card_reports: *mut u16,
@@ -100,11 +100,12 @@ extern "C" {
         card_planned: *mut u32,
         answer: *mut u64,
     ) -> u64;
-    fn bay_lateness(card_taken: u32, card_planned: u32) -> i64;
+    fn bay_lateness(card_taken: *const u32, card_planned: *const u32) -> i64;
 }
 
 pub const TOO_SHORT: u64 = 100;
 pub const UNEVEN: u64 = 101;
+pub const SECONDS_OUT_OF_RANGE: u64 = 102;
 pub const SUCCESS: u64 = 0;
 pub const FAILURE: u64 = 1;
 pub const RUNNING: u64 = 2;
@@ -236,7 +237,7 @@ pub fn read_outside(table: &[u8], held: u64, unread: u64, card: &mut Card) -> [u
     })
 }
 
-pub fn report(table: &[u8], job: usize, seconds: u16, card: &mut Card) -> [u64; 2] {
+pub fn report(table: &[u8], job: usize, seconds: usize, card: &mut Card) -> [u64; 2] {
     answer_of(|answer| unsafe {
         bay_report(
             table.as_ptr(),
@@ -255,5 +256,5 @@ pub fn report(table: &[u8], job: usize, seconds: u16, card: &mut Card) -> [u64; 
 
 pub fn lateness(taken: u32, planned: u32) -> i64 {
     CALLS.fetch_add(1, Ordering::Relaxed);
-    unsafe { bay_lateness(taken, planned) }
+    unsafe { bay_lateness(&taken, &planned) }
 }

@@ -35,7 +35,7 @@ fn numbered(text: &str, separator: &str, name_of: impl Fn(&str) -> Option<String
     names
 }
 
-/// The refusals that the header names, without the two that are the table writer's own.
+/// The refusals that the header names, without those that are the interface's own.
 pub fn refusals() -> BTreeMap<u64, String> {
     let header = file("include/bay.h");
     let (_, after) = header.split_once("enum bay_refusal {").expect("the header has the enum");
@@ -44,6 +44,7 @@ pub fn refusals() -> BTreeMap<u64, String> {
     assert_eq!(names.remove(&0).as_deref(), Some("BAY_OK"));
     assert_eq!(names.remove(&100).as_deref(), Some("BAY_TOO_SHORT"));
     assert_eq!(names.remove(&101).as_deref(), Some("BAY_UNEVEN"));
+    assert_eq!(names.remove(&102).as_deref(), Some("BAY_SECONDS_OUT_OF_RANGE"));
     names
 }
 

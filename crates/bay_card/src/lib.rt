@@ -8,9 +8,14 @@ use reading::Reading;
 ghost use mathlib.Core.Path.{_≡_};
 ghost use Prim.Native.Nat.{ℕ};
 ghost use Rattle.card.specs.Card.{latenessOf, cardAnswerOf};
-ghost use Rattle.card_calls.specs.Calls.{opened, outsideRead, reported};
+ghost use Rattle.card_calls.specs.Calls.{opened, outsideRead};
 ghost use Rattle.bay_words.specs.Words.{words};
-ghost use Rattle.bay_card.specs.CardWords.{doneWords, cardOf, CardAnswered, Stored};
+ghost use Rattle.bay_card.specs.CardWords.{doneWords, cardOf, reportedIn, CardAnswered, Stored};
+
+// As in include/bay.h.
+const BAY_SECONDS_OUT_OF_RANGE: u64 = 102;
+
+const MAX_TAKEN: usize = 65_535;
 
 fn done_words(outcome: CardAnswer) -> [u64; 2]
     ensures { λ r. ⌜ r ≡ words 2 doneWords (cardAnswerOf outcome) ⌝ }
@@ -129,11 +134,12 @@ pub extern "C" fn bay_read_outside(
     )
 }
 
+// The seconds are a machine word: a number that is wider than a report's is told, and not cut to another one.
 #[no_mangle]
 pub extern "C" fn bay_report(
     table: &[u8],
     job: usize,
-    seconds: u16,
+    seconds: usize,
     card_held: &mut u64,
     card_unread: &mut u64,
     card_reports: &mut u16,
@@ -142,12 +148,17 @@ pub extern "C" fn bay_report(
     answer: &mut [u64; 2],
 ) -> u64
     ensures { λ r. ⌜ CardAnswered
-        (reported (now (table .entry)) (record { job = job; taken = seconds })
+        (reportedIn (now (table .entry)) job seconds
         (cardOf (now («card_held» .entry)) (now («card_unread» .entry)) (now («card_reports» .entry)) (now («card_taken» .entry)) (now («card_planned» .entry))))
         (cardOf (now («card_held» .entry)) (now («card_unread» .entry)) (now («card_reports» .entry)) (now («card_taken» .entry)) (now («card_planned» .entry)))
         (cardOf (now («card_held» .exit)) (now («card_unread» .exit)) (now («card_reports» .exit)) (now («card_taken» .exit)) (now («card_planned» .exit)))
         (now (answer .exit)) r ⌝ }
 {
+    if seconds > MAX_TAKEN {
+        *answer = [BAY_SECONDS_OUT_OF_RANGE, 0];
+        return BAY_SECONDS_OUT_OF_RANGE;
+    }
+    let taken = seconds as u16;
     let before = Card {
         held: *card_held,
         unread: *card_unread,
@@ -155,14 +166,7 @@ pub extern "C" fn bay_report(
         taken: *card_taken,
         planned: *card_planned,
     };
-    let reported = card_calls::reported(
-        before,
-        table,
-        JobReport {
-            job,
-            taken: seconds,
-        },
-    );
+    let reported = card_calls::reported(before, table, JobReport { job, taken });
     store(
         reported,
         card_held,
@@ -174,16 +178,18 @@ pub extern "C" fn bay_report(
     )
 }
 
-// Of every card with these sums.
+// Of every card with these sums, which are lent like the card's other parts, so that no wider number is cut to one.
 #[no_mangle]
-pub extern "C" fn bay_lateness(card_taken: u32, card_planned: u32) -> i64
-    ensures { λ r. ⌜ ((held unread reports : ℕ) → r ≡ latenessOf (cardOf held unread reports «card_taken» «card_planned»)) ⌝ }
+pub extern "C" fn bay_lateness(card_taken: &u32, card_planned: &u32) -> i64
+    ensures { λ r. ⌜ ((held unread reports : ℕ) → r ≡ latenessOf (cardOf held unread reports (now («card_taken» .entry)) (now («card_planned» .entry)))) ⌝ }
 {
+    let taken = *card_taken;
+    let planned = *card_planned;
     card::lateness(Card {
         held: 0,
         unread: 0,
         reports: 0,
-        taken: card_taken,
-        planned: card_planned,
+        taken,
+        planned,
     })
 }

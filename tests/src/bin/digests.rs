@@ -137,7 +137,7 @@ impl Library {
                 1 => ("read_outside", ffi::read_outside(&case.table, held, unread, &mut card)),
                 _ => {
                     let job = random.below(case.jobs + 1).min(255);
-                    let seconds = random.next() as u16;
+                    let seconds = usize::from(random.next() as u16);
                     ("report", ffi::report(&case.table, job, seconds, &mut card))
                 }
             };

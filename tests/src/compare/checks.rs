@@ -29,7 +29,7 @@ const NUMBERS: [(&str, &[u64]); 10] = [
     ("tick", &[0, 1, 2, 3, 4, 5, 6, 7, 8, 13, 14, 15, 19]),
     ("open", &[0, 1, 2, 3, 4, 5, 6, 7, 8, 19]),
     ("read_outside", &[0, 1, 2, 3, 4, 5, 6, 7, 8, 19]),
-    ("report", &[0, 1, 2, 3, 4, 5, 6, 7, 8, 16, 17, 18, 19]),
+    ("report", &[0, 1, 2, 3, 4, 5, 6, 7, 8, 16, 17, 18, 19, ffi::SECONDS_OUT_OF_RANGE]),
 ];
 
 /// The last group: every function gave every number that it can, and no other.
@@ -233,7 +233,8 @@ pub fn newest_weaker(listed: &[u64], condition: u64) -> Option<usize> {
         None => [0, 0, 0],
     };
     let copy = listed.to_vec();
-    let case = || format!("newest_weaker of {condition:x} in {} entries {:x?}", listed.len(), &listed[..listed.len().min(60)]);
+    let case =
+        || format!("newest_weaker of {condition:x} in {} entries {:x?}", listed.len(), &listed[..listed.len().min(60)]);
     reached("newest_weaker", expected[0]);
     same(ffi::newest_weaker(&copy, condition), expected, case);
     same(copy.as_slice(), listed, case);
@@ -287,13 +288,21 @@ pub fn read_outside(table: &[u8], held: u64, unread: u64, card: &mut Card) -> Re
     )
 }
 
-pub fn report(table: &[u8], job: usize, seconds: u16, card: &mut Card) -> Result<(), Refusal> {
+/// "A report has a job and its taken seconds (16 bits)": one of more is none, and only the C interface can be given it.
+fn report_of(table: &[u8], job: usize, seconds: usize, card: &mut Card) -> Result<(), Refusal> {
+    match u16::try_from(seconds) {
+        Ok(seconds) => engine::report(table, job, seconds, card),
+        Err(_) => Err(Refusal { number: ffi::SECONDS_OUT_OF_RANGE, place: 0 }),
+    }
+}
+
+pub fn report(table: &[u8], job: usize, seconds: usize, card: &mut Card) -> Result<(), Refusal> {
     over_card(
         "report",
         table,
         card,
         || format!("job {job} seconds {seconds}"),
-        |table, card| engine::report(table, job, seconds, card),
+        |table, card| report_of(table, job, seconds, card),
         |table, card| ffi::report(table, job, seconds, card),
     )
 }

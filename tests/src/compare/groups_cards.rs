@@ -40,7 +40,7 @@ fn card(random: &mut Random, facts: u32) -> Card {
     Card { held, unread, reports, taken, planned }
 }
 
-/// A number that mostly names no job. Some would name one if they were cut to a byte or to 32 bits.
+/// A number that mostly names no job and is no report's seconds. Some would be if they were cut to a byte, to 16 or to 32 bits.
 fn any_number(random: &mut Random) -> usize {
     let low = random.below(4);
     let byte = usize::from(random.byte());
@@ -54,7 +54,7 @@ fn any_card(random: &mut Random, _: u64) {
     for _ in 0..4 {
         let number = random.below(table.jobs.len() + 1);
         let number = if random.one_in(12) { any_number(random) } else { number };
-        let seconds = *random.pick(&[0, 1, 600, 65_535]);
+        let seconds = if random.one_in(12) { any_number(random) } else { *random.pick(&[0, 1, 600, 65_535]) };
         if random.one_in(3) {
             // Hold its needs, so that reports are often taken.
             if let Some(job) = table.jobs.get(number) {
@@ -85,7 +85,7 @@ fn refused(random: &mut Random, _: u64) {
     match random.below(3) {
         0 => drop(checks::open(&bytes, held, unread, &mut card)),
         1 => drop(checks::read_outside(&bytes, held, unread, &mut card)),
-        _ => drop(checks::report(&bytes, any_number(random), 1, &mut card)),
+        _ => drop(checks::report(&bytes, any_number(random), any_number(random), &mut card)),
     }
 }
 
@@ -109,7 +109,8 @@ fn through_a_plan(random: &mut Random, _: u64) {
             Status::Running(number) => {
                 let seconds = random.next() as u16;
                 let job = table.jobs[usize::from(number)];
-                checks::report(&bytes, usize::from(number), seconds, &mut card).expect("a named job is applicable");
+                checks::report(&bytes, usize::from(number), usize::from(seconds), &mut card)
+                    .expect("a named job is applicable");
                 state = job.finish(state);
                 listed += u32::from(job.seconds);
             }
