@@ -52,7 +52,11 @@ pub record Computed : Type 0 where
   pub prints-right : map (λ p. p .found) prints ≡ map (λ p. p .expected) prints
 
 pub computed : Computed
-unfolding named planShift planFor startFor tablePlan expand expandFrom expandEntry listed weaker satisfied applied relevant regressed evaluated subset intersects union difference within sound checkedAt checkedStart nearest conditionBytes actionBytes firstBytes entryBytes laterEntries treeBytes widthOf commandAt fromBytes toBytes numberAt tableBytes jobsBytes jobBytes goalBytes Table.readTable Table.readJobs Table.readGoal Table.readEnd Table.due jobAt validatedJob tickBytes tickChecked tickBy Tree.wholeAt Tree.operandsOf Tree.nodeAt Tree.readRow Tree.readNode Tree.readTree Tree.readEnd readingsFrom programText filesPlan planText refusedText entriesText digits placesIn places
+unfolding named planShift planFor startFor tablePlan expand expandFrom expandEntry listed weaker satisfied applied relevant regressed evaluated subset
+    intersects union difference within sound checkedAt checkedStart nearest conditionBytes actionBytes firstBytes entryBytes laterEntries treeBytes
+    widthOf commandAt fromBytes toBytes numberAt tableBytes jobsBytes jobBytes goalBytes Table.readTable Table.readJobs Table.readGoal Table.readEnd
+    Table.due jobAt validatedJob tickBytes tickChecked tickBy Tree.wholeAt Tree.operandsOf Tree.nodeAt Tree.readRow Tree.readNode Tree.readTree
+    Tree.readEnd readingsFrom programText filesPlan planText refusedText entriesText digits placesIn places
 computed =
     record {
       plans-right = refl;
