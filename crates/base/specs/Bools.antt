@@ -1,7 +1,7 @@
 -- Tests and what they show: `T b` says that the test b came out true.
 -- Assumes nothing.
 use mathlib.Core.Path.{_≡_, refl}
-use mathlib.Core.Bool.{Bool, true, false, not, _&&_}
+use mathlib.Core.Bool.{Bool, true, false, not, _&&_, _||_}
 use lib.Dec.{T}
 
 pub by-cases : {P : Type 0} (b : Bool) → (T b → P) → (T (not b) → P) → P
@@ -19,6 +19,18 @@ and-left false b t = t
 pub and-right : (a b : Bool) → T (a && b) → T b
 and-right true b t = t
 and-right false b t = absurd t
+
+pub neither : (a b : Bool) → T (not a) → T (not b) → T (not (a || b))
+neither true b s t = s
+neither false b s t = t
+
+pub neither-left : (a b : Bool) → T (not (a || b)) → T (not a)
+neither-left true b t = t
+neither-left false b t = tt
+
+pub neither-right : (a b : Bool) → T (not (a || b)) → T (not b)
+neither-right true b t = absurd t
+neither-right false b t = t
 
 pub holds : (b : Bool) → b ≡ true → T b
 holds b e = rw e tt

@@ -2,35 +2,17 @@
 -- Assumes nothing.
 use Prim.Native.Nat.{ℕ, _+_, _<_, _≤_}
 use native.Mathlib.Omega.{arith}
-use mathlib.Core.Path.{_≡_, refl, sym, ap, _∙_}
+use mathlib.Core.Path.{_≡_, refl, sym, _∙_}
 use mathlib.Core.Bool.{Bool, true, false}
 use mathlib.Core.List.{List}
-use native.Mathlib.Numerals.{add-one}
-use lib.Dec.{eqb, ltb, leb}
-use lib.ListN.{length, getD, drop, drop-of-length-le}
-use lib.Seq.{drop-cons}
-use borrow.Author.Tests.{eq-eqb, ne-eqb, le-ltb, lt-ltb, le-leb, lt-leb, ltb-true, leb-true}
+use lib.Dec.{ltb, leb}
+use lib.ListN.{length, getD}
+use borrow.Author.Tests.{le-ltb, lt-ltb, le-leb, lt-leb, ltb-true, leb-true}
 use Rattle.base.specs.Bools.{if_then_else_}
-use Rattle.commands.specs.declared.Command.{Command}
 use Rattle.commands.specs.declared.Width.{Width}
 use Rattle.commands.specs.declared.Width.the-variants.{Bytes, NoCommand}
 use Rattle.commands.specs.declared.Found.the-variants.{Missing, Unknown, Cut, Whole}
-use Rattle.commands.specs.Commands.{widthIn, widthOf, commandAt, operandsAt}
-
--- the look-up goes on with the rest of the list until a command has the byte
-
-module _ (l : List Command) (i b : ℕ) (d : Command) (h : i < length l) where
-  step : widthIn (drop i l) b ≡ (if eqb (getD l i d .byte) b then Bytes (getD l i d .width) else widthIn (drop (i + 1) l) b)
-  step = rw (add-one i, drop-cons l i d h)
-
-  pub width-hit : getD l i d .byte ≡ b → widthIn (drop i l) b ≡ Bytes (getD l i d .width)
-  width-hit e = step ∙ ap (λ t. if t then Bytes (getD l i d .width) else widthIn (drop (i + 1) l) b) (eq-eqb (getD l i d .byte) b e)
-
-  pub width-miss : (getD l i d .byte ≡ b → ⊥) → widthIn (drop i l) b ≡ widthIn (drop (i + 1) l) b
-  width-miss n = step ∙ ap (λ t. if t then Bytes (getD l i d .width) else widthIn (drop (i + 1) l) b) (ne-eqb (getD l i d .byte) b n)
-
-pub width-over : (l : List Command) (i b : ℕ) → length l ≤ i → widthIn (drop i l) b ≡ NoCommand
-width-over l i b h = rw (drop-of-length-le l h)
+use Rattle.commands.specs.Commands.{widthOf, commandAt, operandsAt}
 
 -- ---- what stands at an offset, way by way
 

@@ -17,6 +17,10 @@ FACTS = 0x10
 abbrev pub JOB : ℕ
 JOB = 0x20
 
+-- document 02, W10: "A second JOB command 0x21 has needs, absent, adds, deletes and seconds, 34 bytes."
+abbrev pub PAIRED-JOB : ℕ
+PAIRED-JOB = 0x21
+
 abbrev pub GOAL : ℕ
 GOAL = 0x30
 
@@ -35,6 +39,10 @@ CONDITION = 0x43
 abbrev pub JOB-LEAF : ℕ
 JOB-LEAF = 0x44
 
+-- document 02, W10: "The tree gets 0x45 with both masks"
+abbrev pub PAIR : ℕ
+PAIR = 0x45
+
 abbrev pub END-OF-TREE : ℕ
 END-OF-TREE = 0x4F
 
@@ -50,6 +58,8 @@ commands =
     ∷ record { byte = CONDITION; width = 8 }
     ∷ record { byte = JOB-LEAF; width = 1 }
     ∷ record { byte = END-OF-TREE; width = 0 }
+    ∷ record { byte = PAIRED-JOB; width = 34 }
+    ∷ record { byte = PAIR; width = 16 }
     ∷ []
 
 -- the bytes that a command takes, its own and its operands'
@@ -84,6 +94,12 @@ JOB-LEAF-SIZE = sizeIn commands JOB-LEAF
 abbrev pub END-OF-TREE-SIZE : ℕ
 END-OF-TREE-SIZE = sizeIn commands END-OF-TREE
 
+abbrev pub PAIRED-JOB-SIZE : ℕ
+PAIRED-JOB-SIZE = sizeIn commands PAIRED-JOB
+
+abbrev pub PAIR-SIZE : ℕ
+PAIR-SIZE = sizeIn commands PAIR
+
 -- where the first operand of a command stands, from its byte on
 abbrev pub OPERANDS-AT : ℕ
 OPERANDS-AT = 1
@@ -92,18 +108,21 @@ OPERANDS-AT = 1
 abbrev pub MASK-WIDTH : ℕ
 MASK-WIDTH = 8
 
--- where the operands of a JOB stand, from its byte on: "needs, adds, deletes (8 bytes each), seconds (2 bytes)"
-abbrev pub NEEDS-AT : ℕ
-NEEDS-AT = OPERANDS-AT
+-- where the second mask of a PAIRED-JOB or a PAIR stands, from its byte on
+abbrev pub ABSENT-AT : ℕ
+ABSENT-AT = OPERANDS-AT + MASK-WIDTH
 
+-- where the adds stand, from the command's byte on: of a JOB "needs, adds, deletes (8 bytes each), seconds (2 bytes)", of a PAIRED-JOB "needs,
+-- absent, adds, deletes and seconds"
 abbrev pub ADDS-AT : ℕ
-ADDS-AT = NEEDS-AT + MASK-WIDTH
+ADDS-AT = OPERANDS-AT + MASK-WIDTH
 
-abbrev pub DELETES-AT : ℕ
-DELETES-AT = ADDS-AT + MASK-WIDTH
+abbrev pub PAIRED-ADDS-AT : ℕ
+PAIRED-ADDS-AT = ABSENT-AT + MASK-WIDTH
 
-abbrev pub SECONDS-AT : ℕ
-SECONDS-AT = DELETES-AT + MASK-WIDTH
+-- the bytes of the adds, deletes and seconds
+abbrev pub EFFECTS-WIDTH : ℕ
+EFFECTS-WIDTH = MASK-WIDTH + MASK-WIDTH + 2
 
 -- the width that a list of commands gives a byte
 abbrev pub widthIn : List Command → ℕ → Width

@@ -5,27 +5,28 @@ use mathlib.Core.List.{List}
 use mathlib.Core.Logic.{_↔_}
 use Prim.Native.Nat.{ℕ, zero, suc, _<_}
 use lib.Dec.{T}
-use lib.ListN.{getD}
 use Rattle.base.specs.Bools.{if_then_else_}
+use Rattle.conditions.specs.declared.Condition.{Condition}
 use Rattle.conditions.specs.declared.Found.{Found}
 use Rattle.conditions.specs.declared.Found.the-variants.{At, Nowhere}
-use Rattle.conditions.specs.Condition.{Condition, weaker}
+use Rattle.conditions.specs.Condition.{weaker, conditionAt}
 
--- among the first n listed conditions, "from the newest entry down to entry 0", "the entry it found, the newest that is a part"
-unfoldable pub newestWeaker : List ℕ → ℕ → Condition → Found
-newestWeaker listed zero c = Nowhere
-newestWeaker listed (suc k) c = if weaker (getD listed k 0) c then At k else newestWeaker listed k c
+-- among the first n conditions of two columns, "from the newest entry down to entry 0", "the entry it found, the newest that is a part"
+unfoldable pub newestWeaker : List ℕ → List ℕ → ℕ → Condition → Found
+newestWeaker conditions absences zero c = Nowhere
+newestWeaker conditions absences (suc k) c =
+    if weaker (conditionAt conditions absences k) c then At k else newestWeaker conditions absences k c
 
 -- ---- what an answer says
 
 -- The entry is one of the first n and a part, and no newer one is.
-pub record Newest (listed : List ℕ) (n : ℕ) (c : Condition) (entry : ℕ) : Type 0 where
+pub record Newest (conditions absences : List ℕ) (n : ℕ) (c : Condition) (entry : ℕ) : Type 0 where
   pub is-listed : entry < n
-  pub is-part : T (weaker (getD listed entry 0) c)
-  pub no-newer : (i : ℕ) → entry < i → i < n → T (weaker (getD listed i 0) c) → ⊥
+  pub is-part : T (weaker (conditionAt conditions absences entry) c)
+  pub no-newer : (i : ℕ) → entry < i → i < n → T (weaker (conditionAt conditions absences i) c) → ⊥
 
 -- "It answers none exactly where it did before": where none of them is a part.
-pub record Searches (listed : List ℕ) (n : ℕ) (c : Condition) (found : Found) : Type 0 where
-  pub answer : found ≡ newestWeaker listed n c
-  pub newest : (entry : ℕ) → found ≡ At entry → Newest listed n c entry
-  pub nowhere : (found ≡ Nowhere) ↔ ((i : ℕ) → i < n → T (weaker (getD listed i 0) c) → ⊥)
+pub record Searches (conditions absences : List ℕ) (n : ℕ) (c : Condition) (found : Found) : Type 0 where
+  pub answer : found ≡ newestWeaker conditions absences n c
+  pub newest : (entry : ℕ) → found ≡ At entry → Newest conditions absences n c entry
+  pub nowhere : (found ≡ Nowhere) ↔ ((i : ℕ) → i < n → T (weaker (conditionAt conditions absences i) c) → ⊥)

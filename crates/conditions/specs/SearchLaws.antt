@@ -1,6 +1,6 @@
 -- The search for a listed part, step by step, and what each answer says.
 -- Assumes nothing.
-use mathlib.Core.Bool.{Bool, true, false}
+use mathlib.Core.Bool.{Bool, true, false, _&&_}
 use mathlib.Core.List.{List}
 use mathlib.Core.Path.{_≡_, refl, sym, _∙_}
 use native.Mathlib.Nat.{not-suc-le-zero}
@@ -10,37 +10,58 @@ use Prim.Native.Nat.{ℕ, zero, suc, _<_}
 use lib.Dec.{T}
 use lib.ListN.{getD}
 use Rattle.base.specs.Bools.{holds}
+use Rattle.masks.specs.Sets.{subset}
+use Rattle.conditions.specs.declared.Condition.{Condition}
 use Rattle.conditions.specs.declared.Found.{Found}
 use Rattle.conditions.specs.declared.Found.the-variants.{At, Nowhere}
-use Rattle.conditions.specs.Condition.{Condition, weaker}
+use Rattle.conditions.specs.Condition.{weaker, conditionAt}
 use Rattle.conditions.specs.Search.{newestWeaker, Newest, Searches}
 
 pub found-nowhere : {k : ℕ} → At k ≡ Nowhere → ⊥
 found-nowhere e = let z : _≡_ {A = ℕ} 0 1 = cc in omega arith
 
-module _ (listed : List ℕ) (c : Condition) where
+module _ (conditions absences : List ℕ) (c : Condition) where
   -- ---- the steps
 
-  pub newest-none : Nowhere ≡ newestWeaker listed 0 c
+  pub newest-none : Nowhere ≡ newestWeaker conditions absences 0 c
   unfolding newestWeaker
   newest-none = refl
 
+  -- both masks of an entry are looked at, the second only where the first is a part
   module _ (k : ℕ) where
-    pub newest-met : weaker (getD listed k 0) c ≡ true → At k ≡ newestWeaker listed (suc k) c
+    pub part-both : subset (getD conditions k 0) (c .present) ≡ true → subset (getD absences k 0) (c .absent) ≡ true
+        → weaker (conditionAt conditions absences k) c ≡ true
+    unfolding weaker
+    part-both p q = rw (p, q)
+
+    pub first-other : subset (getD conditions k 0) (c .present) ≡ false → weaker (conditionAt conditions absences k) c ≡ false
+    unfolding weaker
+    first-other p = rw p
+
+    pub second-other : subset (getD absences k 0) (c .absent) ≡ false → weaker (conditionAt conditions absences k) c ≡ false
+    unfolding weaker
+    second-other q = none (subset (getD conditions k 0) (c .present)) _ q
+      where
+        none : (a b : Bool) → b ≡ false → (a && b) ≡ false
+        none true b e = e
+        none false b e = refl
+
+  module _ (k : ℕ) where
+    pub newest-met : weaker (conditionAt conditions absences k) c ≡ true → At k ≡ newestWeaker conditions absences (suc k) c
     unfolding newestWeaker
     newest-met e = rw e
 
-    pub newest-other : weaker (getD listed k 0) c ≡ false → newestWeaker listed k c ≡ newestWeaker listed (suc k) c
+    pub newest-other : weaker (conditionAt conditions absences k) c ≡ false → newestWeaker conditions absences k c ≡ newestWeaker conditions absences (suc k) c
     unfolding newestWeaker
     newest-other e = rw e
 
   -- ---- the answers
 
-  pub found-newest : (n k : ℕ) → newestWeaker listed n c ≡ At k → Newest listed n c k
+  pub found-newest : (n k : ℕ) → newestWeaker conditions absences n c ≡ At k → Newest conditions absences n c k
   found-newest zero k e = absurd (found-nowhere (sym e ∙ sym newest-none))
-  found-newest (suc n) k e = by (weaker (getD listed n 0) c) refl (found-newest n k)
+  found-newest (suc n) k e = by (weaker (conditionAt conditions absences n) c) refl (found-newest n k)
     where
-      by : (b : Bool) → weaker (getD listed n 0) c ≡ b → (newestWeaker listed n c ≡ At k → Newest listed n c k) → Newest listed (suc n) c k
+      by : (b : Bool) → weaker (conditionAt conditions absences n) c ≡ b → (newestWeaker conditions absences n c ≡ At k → Newest conditions absences n c k) → Newest conditions absences (suc n) c k
       by true w older =
           let q : At n ≡ At k = newest-met n w ∙ e in
           let x : n ≡ k = cc in
@@ -58,11 +79,11 @@ module _ (listed : List ℕ) (c : Condition) where
           }
 
   -- None is answered exactly where no listed condition is a part.
-  pub nowhere-none : (n : ℕ) → newestWeaker listed n c ≡ Nowhere → (i : ℕ) → i < n → T (weaker (getD listed i 0) c) → ⊥
+  pub nowhere-none : (n : ℕ) → newestWeaker conditions absences n c ≡ Nowhere → (i : ℕ) → i < n → T (weaker (conditionAt conditions absences i) c) → ⊥
   nowhere-none zero e i h t = not-suc-le-zero h
-  nowhere-none (suc n) e i h t = by (weaker (getD listed n 0) c) refl (λ q l. nowhere-none n q i l t)
+  nowhere-none (suc n) e i h t = by (weaker (conditionAt conditions absences n) c) refl (λ q l. nowhere-none n q i l t)
     where
-      by : (b : Bool) → weaker (getD listed n 0) c ≡ b → (newestWeaker listed n c ≡ Nowhere → i < n → ⊥) → ⊥
+      by : (b : Bool) → weaker (conditionAt conditions absences n) c ≡ b → (newestWeaker conditions absences n c ≡ Nowhere → i < n → ⊥) → ⊥
       by true w older = found-nowhere (newest-met n w ∙ e)
       by false w older =
           elim (decLe n i) [
@@ -70,16 +91,16 @@ module _ (listed : List ℕ) (c : Condition) where
             | no a ↦ older (newest-other n w ∙ e) (omega arith)
           ]
 
-  pub none-nowhere : (n : ℕ) → ((i : ℕ) → i < n → T (weaker (getD listed i 0) c) → ⊥) → newestWeaker listed n c ≡ Nowhere
-  none-nowhere n none = by (newestWeaker listed n c) refl
+  pub none-nowhere : (n : ℕ) → ((i : ℕ) → i < n → T (weaker (conditionAt conditions absences i) c) → ⊥) → newestWeaker conditions absences n c ≡ Nowhere
+  none-nowhere n none = by (newestWeaker conditions absences n c) refl
     where
-      by : (f : Found) → newestWeaker listed n c ≡ f → f ≡ Nowhere
+      by : (f : Found) → newestWeaker conditions absences n c ≡ f → f ≡ Nowhere
       by (At k) e = let m = found-newest n k e in absurd (none k (m .is-listed) (m .is-part))
       by Nowhere e = refl
 
   -- ---- the promise
 
-  pub searches : (n : ℕ) (found : Found) → found ≡ newestWeaker listed n c → Searches listed n c found
+  pub searches : (n : ℕ) (found : Found) → found ≡ newestWeaker conditions absences n c → Searches conditions absences n c found
   searches n found e =
       record {
         answer = e;

@@ -1,14 +1,16 @@
 -- The laws of sets that the other crates cite.
 -- Assumes nothing.
 use mathlib.Core.Path.{_≡_, refl, sym}
-use mathlib.Core.Bool.{Bool, true, false, not}
-use Prim.Native.Nat.{ℕ, _*_, _/_, _^_, _≤_, _<_}
+use mathlib.Core.Bool.{Bool, true, false, not, _&&_}
+use Prim.Native.Nat.{ℕ, _-_, _*_, _/_, _^_, _≤_, _<_}
 use native.Mathlib.Omega.{arith}
 use native.Mathlib.Nat.{div-lt-iff-lt-mul, one-mul}
 use lib.Pow.{pow-pos}
 use borrow.Author.Tests.{lt-ltb, eq-eqb, ne-eqb, ltb-false, ltb-true}
-use lib.Dec.{T, eqb, ltb, ltb→lt, lt→ltb}
-use Rattle.masks.specs.Sets.{subset, intersects, union, difference, within}
+use lib.Bits.{bitAnd, and-mask}
+use lib.Dec.{T, T-not, not-T, eqb, eqb-refl, ltb, ltb→lt, lt→ltb}
+use Rattle.base.specs.Bools.{holds, fails, is-true, is-false}
+use Rattle.masks.specs.Sets.{subset, intersects, union, difference, others, within}
 use Rattle.masks.specs.Bits.{bit-le, bit-empty, bits, same-bits, subset-bits, bits-subset, disjoint-bits, bits-disjoint, within-bits, bits-within}
 
 -- ---- subset
@@ -62,6 +64,30 @@ disjoint-sym a b t = bits-disjoint b a (λ i. omega (arith, disjoint-bits a b t 
 pub disjoint-subset : (a b c d : ℕ) → T (subset a c) → T (subset b d) → T (not (intersects c d)) → T (not (intersects a b))
 disjoint-subset a b c d p q t = bits-disjoint a b (λ i. omega (arith, subset-bits a c p i, subset-bits b d q i, disjoint-bits c d t i))
 
+-- ---- every fact but those of a set
+
+every-part : (a : ℕ) → a < 2 ^ 64 → T (subset a (2 ^ 64 - 1))
+unfolding subset
+every-part a h = let e : bitAnd a (2 ^ 64 - 1) ≡ a = omega (arith, and-mask a 64) in rw e (eqb-refl a)
+
+-- a mask is a part of b exactly where it has none of the other facts
+pub part-others : (a b : ℕ) → a < 2 ^ 64 → intersects a (others b) ≡ not (subset a b)
+unfolding others
+part-others a b h = by (subset a b) refl
+  where
+    not-not : (x : Bool) → (T (not x) → ⊥) → T x
+    not-not true f = tt
+    not-not false f = f tt
+
+    by : (s : Bool) → subset a b ≡ s → intersects a (difference (2 ^ 64 - 1) b) ≡ not s
+    by true e =
+        is-false _ (bits-disjoint a _ (λ i.
+        simp bits (omega (arith, subset-bits a b (holds _ e) i, bit-le a i, bit-le b i, bit-le (2 ^ 64 - 1) i))))
+    by false e =
+        is-true _ (not-not (intersects a (difference (2 ^ 64 - 1) b)) (λ t.
+        T-not (subset a b) (fails _ e) (bits-subset a b (λ i.
+        let d = simp bits at (disjoint-bits a _ t i) in omega (arith, d, subset-bits a (2 ^ 64 - 1) (every-part a h) i, bit-le a i, bit-le b i)))))
+
 -- ---- sets within the number of facts
 
 pub within-subset : (f a b : ℕ) → T (subset a b) → T (within f b) → T (within f a)
@@ -69,6 +95,18 @@ within-subset f a b p t = bits-within f a (λ i l. omega (arith, subset-bits a b
 
 pub within-union : (f a b : ℕ) → T (within f a) → T (within f b) → T (within f (union a b))
 within-union f a b s t = bits-within f (union a b) (λ i l. simp bits (omega (arith, within-bits f a s i l, within-bits f b t i l)))
+
+-- a union is within the facts exactly where both sets are
+pub within-both : (f a b : ℕ) → within f (union a b) ≡ (within f a && within f b)
+within-both f a b = by (within f a) refl (within f b) refl
+  where
+    part : (c : ℕ) → within f c ≡ false → T (subset c (union a b)) → within f (union a b) ≡ false
+    part c e p = is-false _ (not-T (within f (union a b)) (λ t. T-not (within f c) (fails _ e) (within-subset f c (union a b) p t)))
+
+    by : (x : Bool) → within f a ≡ x → (y : Bool) → within f b ≡ y → within f (union a b) ≡ (x && y)
+    by true e true g = is-true _ (within-union f a b (holds _ e) (holds _ g))
+    by true e false g = part b g (subset-union-right a b)
+    by false e y g = part a e (subset-union-left a b)
 
 pub within-difference : (f a b : ℕ) → T (within f a) → T (within f (difference a b))
 within-difference f a b t = within-subset f (difference a b) a (difference-subset a b) t

@@ -26,6 +26,10 @@ union a b = bitOr a b
 unfoldable pub difference : ℕ → ℕ → ℕ
 difference a b = a - bitAnd a b
 
+-- every fact that a mask can hold, but those of a
+unfoldable pub others : ℕ → ℕ
+others a = difference (2 ^ 64 - 1) a
+
 -- document 01: a has no bit at or above F
 unfoldable pub within : ℕ → ℕ → Bool
 within f a = ltb a (2 ^ f)

@@ -42,6 +42,8 @@ pub enum Reason {
     CardExhausted,
     // A job is listed with more than 5,400 seconds.
     JobTooLong,
+    // A job needs a fact that it needs absent.
+    NeedsContradict,
 }
 
 pub struct Refusal {
@@ -73,5 +75,6 @@ pub fn number(reason: Reason) -> u8
         Reason::NeedNotHeld => 17,
         Reason::CardExhausted => 18,
         Reason::JobTooLong => 19,
+        Reason::NeedsContradict => 22,
     }
 }

@@ -1,67 +1,92 @@
--- `commands::width_of` meets its contract: what the rest of the table gives the byte is what the whole gives it.
+-- `commands::width_of` meets its contract: each byte has its width in the table, and a byte that is none of them has no command.
 -- Assumes nothing.
-use borrow.Author.Needs.{needs}
-use mathlib.Core.Path.{_≡_, sym, _∙_}
-use native.Mathlib.Omega.{arith}
-use Prim.Native.Nat.{_-_, _≤_}
-use lib.ListN.{length, drop}
-use Rattle.commands.specs.declared.Command.{Command}
-use Rattle.commands.specs.Commands.{commands, widthIn, widthOf}
-use Rattle.commands.specs.CommandLaws.{width-hit, width-miss, width-over}
+use mathlib.Core.Path.{_≡_, sym}
+use mathlib.Core.Bool.{false}
+use Prim.Native.Nat.{ℕ}
+use borrow.Author.Tests.{ne-eqb}
+use lib.Dec.{eqb}
+use Rattle.commands.specs.Commands.{FACTS, JOB, PAIRED-JOB, GOAL, END-OF-TABLE, FALLBACK, SEQUENCE, CONDITION, JOB-LEAF, PAIR, END-OF-TREE, widthOf}
 use Rattle.commands.proofs.width_of.Statement.{statement}
 use Rattle.commands.proofs.width_of.Tie as tie
 
-abbrev Inv-loop : tie.InvT-loop
-Inv-loop byte i₀ i = (i ≤ length commands) × (widthIn (drop i commands) byte ≡ widthOf byte)
-
-abbrev μ-loop : tie.MeasureT-loop
-μ-loop byte i₀ i = length commands - i
-
-none : Command
-none = record { byte = 0; width = 0 }
-
-loop-holds : tie.Need-loop-holds Inv-loop μ-loop
+returns : tie.Need-returns
 unfolding widthOf
-loop-holds c = search needs
+returns c = rw (c .match .keys1)
 
-mul-c : tie.Need-mul-c Inv-loop μ-loop
-mul-c c = search needs
+returns-2 : tie.Need-returns-2
+unfolding widthOf
+returns-2 c = rw (c .match .keys2)
 
-array-copy-out-c : tie.Need-array-copy-out-c Inv-loop μ-loop
-array-copy-out-c c = search needs
+returns-3 : tie.Need-returns-3
+unfolding widthOf
+returns-3 c = rw (c .match .keys3)
 
-returns : tie.Need-returns Inv-loop μ-loop
-unfolding none
-returns c =
-    let h = c .before .before .before .loop in
-    sym (width-hit commands (h .i) (c .before .before .before .before .args .byte) none (omega arith) (c .if1 .taken)) ∙ h .inv .1
+returns-4 : tie.Need-returns-4
+unfolding widthOf
+returns-4 c = rw (c .match .keys4)
 
-add-i : tie.Need-add-i Inv-loop μ-loop
-add-i c = search needs
+returns-5 : tie.Need-returns-5
+unfolding widthOf
+returns-5 c = rw (c .match .keys5)
 
-loop-less : tie.Need-loop-less Inv-loop μ-loop
-loop-less c = search needs
+returns-6 : tie.Need-returns-6
+unfolding widthOf
+returns-6 c = rw (c .match .keys6)
 
-loop-again : tie.Need-loop-again Inv-loop μ-loop
-unfolding none
-loop-again c =
-    let h = c .before .before .before .loop in
-    (omega arith, sym (width-miss commands (h .i) (c .before .before .before .before .args .byte) none (omega arith) (c .if1 .left)) ∙ h .inv .1)
+returns-7 : tie.Need-returns-7
+unfolding widthOf
+returns-7 c = rw (c .match .keys7)
 
-returns-2 : tie.Need-returns-2 Inv-loop μ-loop
-returns-2 c = sym (width-over commands (c .before .loop .i) (c .before .before .args .byte) (omega arith)) ∙ c .before .loop .inv .1
+returns-8 : tie.Need-returns-8
+unfolding widthOf
+returns-8 c = rw (c .match .keys8)
+
+returns-9 : tie.Need-returns-9
+unfolding widthOf
+returns-9 c = rw (c .match .keys9)
+
+returns-10 : tie.Need-returns-10
+unfolding widthOf
+returns-10 c = rw (c .match .keys10)
+
+returns-11 : tie.Need-returns-11
+unfolding widthOf
+returns-11 c = rw (c .match .keys11)
+
+another : {b : ℕ} (k : ℕ) → (b ≡ k → ⊥) → eqb k b ≡ false
+another {b} k n = ne-eqb k b (λ e. n (sym e))
+
+returns-12 : tie.Need-returns-12
+unfolding widthOf
+returns-12 c =
+    let r = c .match .rest in
+    rw (
+      another FACTS (r .0 .0 .0 .0 .0 .0 .0 .0 .0 .0 .1),
+      another JOB (r .0 .0 .0 .0 .0 .0 .0 .0 .0 .1),
+      another GOAL (r .0 .0 .0 .0 .0 .0 .0 .0 .1),
+      another END-OF-TABLE (r .0 .0 .0 .0 .0 .0 .0 .1),
+      another FALLBACK (r .0 .0 .0 .0 .0 .0 .1),
+      another SEQUENCE (r .0 .0 .0 .0 .0 .1),
+      another CONDITION (r .0 .0 .0 .0 .1),
+      another JOB-LEAF (r .0 .0 .0 .1),
+      another END-OF-TREE (r .0 .0 .1),
+      another PAIRED-JOB (r .0 .1),
+      another PAIR (r .1),
+    )
 
 pub width-of-spec : {M : Type 1} → statement M
 width-of-spec =
     tie.close
     (tie.spec
-    Inv-loop
-    μ-loop
-    loop-holds
-    mul-c
-    array-copy-out-c
     returns
-    add-i
-    loop-less
-    loop-again
-    returns-2)
+    returns-2
+    returns-3
+    returns-4
+    returns-5
+    returns-6
+    returns-7
+    returns-8
+    returns-9
+    returns-10
+    returns-11
+    returns-12)
