@@ -8,11 +8,11 @@ use mathlib.Core.List.{List, [], _∷_, _++_, append-assoc, append-nil}
 use lib.ListN.{length, getD, take, drop, length-append, length-take, length-drop, take-append-drop}
 use lib.Seq.{drop-drop, drop-at, drop-cons, take-suc, take-length}
 use Rattle.refusal.specs.Checked.{Checked, accepted, refused}
-use Rattle.commands.specs.Commands.{FACTS-SIZE, JOB-SIZE}
+use Rattle.commands.specs.Commands.{FACTS-SIZE, PAIRED-JOB-SIZE}
 use Rattle.numbers.specs.Numbers.{AreBytes}
 use Rattle.job.specs.declared.Job.{Job}
 use Rattle.job.specs.Job.{noJob, jobBytes, jobSize, jobAt, jobFrom}
-use Rattle.job.specs.JobLaws.{job-size, job-length, read-job}
+use Rattle.job.specs.JobLaws.{job-size, size-most, size-least, job-length, read-job}
 use Rattle.table.specs.Table.{Table, jobsBytes, goalBytes, tableBytes, offsetOf, goalOffset}
 use Rattle.table.specs.Read.{readTable, jobsOf}
 use Rattle.table.specs.RoundTripLaws.{written-back, read-storable}
@@ -47,12 +47,12 @@ unfolding goalOffset offsetOf
 last-offset t = rw take-length
 
 -- a table's jobs are few, so its offsets are small numbers
-jobs-small : (js : List Job) → length (jobsBytes js) ≤ JOB-SIZE * length js
+jobs-small : (js : List Job) → length (jobsBytes js) ≤ PAIRED-JOB-SIZE * length js
 unfolding jobsBytes
 jobs-small [] = omega arith
-jobs-small (j ∷ js) = omega (arith, length-append (jobBytes j) (jobsBytes js), job-length j, job-size j, jobs-small js)
+jobs-small (j ∷ js) = omega (arith, length-append (jobBytes j) (jobsBytes js), job-length j, job-size j, size-most (j .paired), jobs-small js)
 
-pub offset-small : (js : List Job) (i : ℕ) → offsetOf js i ≤ FACTS-SIZE + JOB-SIZE * i
+pub offset-small : (js : List Job) (i : ℕ) → offsetOf js i ≤ FACTS-SIZE + PAIRED-JOB-SIZE * i
 unfolding offsetOf
 offset-small js i = omega (arith, jobs-small (take i js), length-take i js)
 
@@ -91,6 +91,7 @@ module _ (s : List ℕ) (b : AreBytes s) (t : Table) (q : readTable s ≡ accept
         length-append (jobBytes (getD (t .jobs) i noJob)) (jobsBytes (drop (suc i) (t .jobs)) ++ goalBytes (t .goal)),
         job-length (getD (t .jobs) i noJob),
         job-size (getD (t .jobs) i noJob),
+        size-least (getD (t .jobs) i noJob .paired),
       )
 
 -- job i of any bytes that have such a job, at its offset

@@ -1,5 +1,5 @@
 -- The table reader: from bytes to the table, or to the number and place of the first stop (document 01, "Stops, in checking order", 1 to 7;
--- document 02, W3, 19).
+-- document 02, W3, 19, and W10, 22).
 -- "In a table, earlier commands come first; within one, the command byte (1, 2), then its operands' presence (1), then 3 to 6."
 -- Definitions only.
 use Prim.Native.Nat.{ℕ, zero, suc, _+_}
@@ -12,7 +12,7 @@ use Rattle.masks.specs.Sets.{within}
 use Rattle.refusal.specs.Checked.{Checked, accepted, refused, refusedBy, andThen}
 use Rattle.commands.specs.declared.Found.{Found}
 use Rattle.commands.specs.declared.Found.the-variants.{Missing, Unknown, Cut, Whole}
-use Rattle.commands.specs.Commands.{FACTS, JOB, GOAL, END-OF-TABLE, OPERANDS-AT, Past, commandAt}
+use Rattle.commands.specs.Commands.{FACTS, JOB, PAIRED-JOB, GOAL, END-OF-TABLE, OPERANDS-AT, Past, commandAt}
 use Rattle.numbers.specs.Numbers.{numberAt}
 use Rattle.job.specs.declared.Job.{Job}
 use Rattle.job.specs.Job.{noJob, jobAt}
@@ -23,12 +23,12 @@ use Rattle.table.specs.declared.Stage.the-variants.{First, Middle, Last}
 use Rattle.table.specs.declared.Due.{Due}
 use Rattle.table.specs.declared.TableRead.{TableRead}
 use Rattle.table.specs.declared.JobRead.{JobRead}
-use Rattle.table.specs.Table.{Table, maxFacts, maxJobs}
+use Rattle.table.specs.Table.{Table, maxFacts, maxJobs, hasPair}
 
--- which command may stand there: FACTS first, then JOBs up to GOAL, then END
+-- which command may stand there: FACTS first, then JOBs, of either kind, up to GOAL, then END
 abbrev pub allowed : Stage → ℕ → Bool
 allowed First byte = eqb byte FACTS
-allowed Middle byte = eqb byte JOB || eqb byte GOAL
+allowed Middle byte = eqb byte JOB || (eqb byte PAIRED-JOB || eqb byte GOAL)
 allowed Last byte = eqb byte END-OF-TABLE
 
 -- A command byte, with the offset past its operands. 1: "The table ends where a command or operand is due." 2: "A table command is unknown or not
@@ -87,7 +87,7 @@ dueOf (Due.Command byte next) = accepted (record { value = byte; next = next })
 dueOf (Due.Refused x) = refusedBy x
 
 abbrev pub headerOf : Table → Header
-headerOf t = record { facts = t .facts; jobs = length (t .jobs); goal = t .goal }
+headerOf t = record { facts = t .facts; jobs = length (t .jobs); goal = t .goal; paired = hasPair (t .jobs) }
 
 abbrev pub headed : Checked Table → Checked Header
 headed r = andThen r λ t. accepted (headerOf t)

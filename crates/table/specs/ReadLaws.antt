@@ -3,7 +3,7 @@
 use Prim.Native.Nat.{ℕ, zero, suc, _+_, _≤_, _<_}
 use native.Mathlib.Omega.{arith}
 use mathlib.Core.Path.{_≡_, refl, sym, _∙_}
-use mathlib.Core.Bool.{Bool, true, false, _||_}
+use mathlib.Core.Bool.{Bool, true, false}
 use mathlib.Core.List.{List, [], _∷_, _++_}
 use borrow.Author.Tests.{eq-eqb, ne-eqb, eqb-true, lt-ltb, le-ltb}
 use lib.Dec.{eqb}
@@ -15,12 +15,12 @@ use Rattle.refusal.specs.CheckedLaws.{not-both, accepted-same}
 use Rattle.commands.specs.declared.Found.{Found}
 use Rattle.commands.specs.declared.Found.the-variants.{Missing, Unknown, Cut, Whole}
 use Rattle.commands.specs.declared.Width.the-variants.{Bytes}
-use Rattle.commands.specs.Commands.{FACTS, JOB, GOAL, END-OF-TABLE, FACTS-SIZE, JOB-SIZE, GOAL-SIZE, END-OF-TABLE-SIZE, OPERANDS-AT, Past, widthOf, commandAt}
+use Rattle.commands.specs.Commands.{FACTS, JOB, PAIRED-JOB, GOAL, END-OF-TABLE, FACTS-SIZE, GOAL-SIZE, END-OF-TABLE-SIZE, OPERANDS-AT, Past, widthOf, commandAt}
 use Rattle.commands.specs.CommandLaws.{WholeAt, whole-told}
 use Rattle.numbers.specs.Numbers.{numberAt}
 use Rattle.job.specs.declared.Job.{Job}
-use Rattle.job.specs.Job.{noJob, jobAt, jobFrom}
-use Rattle.job.specs.JobLaws.{job-size}
+use Rattle.job.specs.Job.{noJob, commandBy, jobAt, jobFrom}
+use Rattle.job.specs.JobLaws.{sizeBy, by-size, by-width, kind-size}
 use Rattle.job.specs.Validation.{validatedJob}
 use Rattle.table.specs.declared.Header.{Header}
 use Rattle.table.specs.declared.Stage.{Stage}
@@ -92,6 +92,13 @@ sized s at c byte w h b e =
     let k : h .width ≡ w = cc (h .is-width, b, e) in
     (omega (arith, h .is-next), omega (arith, h .is-next, h .inside))
 
+-- a job that was due
+pub record JobDue (s : List ℕ) (at : ℕ) (c : Past ℕ) : Type 0 where
+  pub paired : Bool
+  pub is-byte : getD s at 0 ≡ commandBy paired
+  pub is-next : c .next ≡ at + sizeBy paired
+  pub inside : at + sizeBy paired ≤ length s
+
 module _ (s : List ℕ) (at : ℕ) (c : Past ℕ) where
   pub facts-inside : accepted c ≡ due First s at → (c .next ≡ at + FACTS-SIZE) × (at + FACTS-SIZE ≤ length s)
   unfolding widthOf
@@ -106,20 +113,28 @@ module _ (s : List ℕ) (at : ℕ) (c : Past ℕ) where
     unfolding widthOf
     goal-inside b = omega (arith, sized s at c GOAL _ (due-told Middle s at c e .whole) b refl)
 
-    pub job-byte : (c .value ≡ GOAL → ⊥) → c .value ≡ JOB
-    job-byte b = eqb-true _ _ (left (eqb (c .value) JOB) (eqb (c .value) GOAL) (due-told Middle s at c e .fits) (ne-eqb _ _ b))
-      where
-        left : (x y : Bool) → (x || y) ≡ true → y ≡ false → x ≡ true
-        left true y p q = refl
-        left false y p q = sym q ∙ p
+    job-of : (kind : Bool) → c .value ≡ commandBy kind → JobDue s at c
+    job-of kind b =
+        let whole = due-told Middle s at c e .whole in
+        let size = sized s at c (commandBy kind) _ whole b (by-width kind noJob) in
+        let ends = by-size kind noJob in
+        record { paired = kind; is-byte = whole .is-byte ∙ b; is-next = omega (arith, size .0, ends); inside = omega (arith, size .1, ends) }
 
-    pub job-inside : (c .value ≡ GOAL → ⊥) → (c .next ≡ at + JOB-SIZE) × (at + JOB-SIZE ≤ length s)
-    unfolding widthOf
-    job-inside b = omega (arith, sized s at c JOB _ (due-told Middle s at c e .whole) (job-byte b) refl)
+    -- a command that is due after FACTS and is no GOAL is a job, of one kind or the other
+    pub job-due : (c .value ≡ GOAL → ⊥) → JobDue s at c
+    job-due b = by-test (eqb (c .value) JOB) refl (eqb (c .value) PAIRED-JOB) refl
+      where
+        by-test : (x : Bool) → eqb (c .value) JOB ≡ x → (y : Bool) → eqb (c .value) PAIRED-JOB ≡ y → JobDue s at c
+        by-test true p y q = job-of false (eqb-true _ _ p)
+        by-test false p true q = job-of true (eqb-true _ _ q)
+        by-test false p false q = absurd (b (eqb-true _ _ (rw (p, q) at (due-told Middle s at c e .fits))))
 
     -- so the job that is read there ends where its command does
     pub job-whole : (c .value ≡ GOAL → ⊥) → (c .next ≡ jobFrom s at .next) × (jobFrom s at .next ≤ length s)
-    job-whole b = omega (arith, job-inside b, job-size (jobAt s at))
+    job-whole b =
+        let d = job-due b in
+        let size = kind-size s at (d .paired) (d .is-byte) in
+        (omega (arith, d .is-next, size), omega (arith, d .inside, size))
 
 -- ---- END
 

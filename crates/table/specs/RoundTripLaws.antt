@@ -17,20 +17,20 @@ use Rattle.refusal.specs.Checked.{Checked, accepted, refused, andThen}
 use Rattle.refusal.specs.CheckedLaws.{not-both, accepted-same, accepted-then, accepted-if}
 use Rattle.commands.specs.declared.Found.the-variants.{Whole}
 use Rattle.commands.specs.declared.Width.the-variants.{Bytes}
-use Rattle.commands.specs.Commands.{FACTS, JOB, GOAL, END-OF-TABLE, FACTS-SIZE, GOAL-SIZE, END-OF-TABLE-SIZE, OPERANDS-AT, Past, widthOf, commandAt}
+use Rattle.commands.specs.Commands.{FACTS, JOB, PAIRED-JOB, GOAL, END-OF-TABLE, FACTS-SIZE, GOAL-SIZE, END-OF-TABLE-SIZE, OPERANDS-AT, Past, widthOf, commandAt}
 use Rattle.commands.specs.CommandLaws.{at-whole}
 use Rattle.numbers.specs.Numbers.{AreBytes, toBytes, numberAt}
 use Rattle.numbers.specs.NumberLaws.{from-to, to-length, read-drop, number-lt, byte-there, number-there}
 use Rattle.job.specs.declared.Job.{Job}
-use Rattle.job.specs.Job.{noJob, jobBytes, jobSize, jobAt, StorableJob}
-use Rattle.job.specs.JobLaws.{job-size, job-length, read-job, written-job, job-fits}
+use Rattle.job.specs.Job.{noJob, commandBy, operandsBy, jobBytes, jobSize, jobAt, StorableJob}
+use Rattle.job.specs.JobLaws.{by-size, by-width, job-size, job-length, read-job, written-job, job-fits}
 use Rattle.job.specs.Validation.{maxSeconds, validatedJob, SoundJob}
 use Rattle.job.specs.ValidationLaws.{validated-sound, validated-told}
 use Rattle.table.specs.declared.Stage.{Stage}
 use Rattle.table.specs.declared.Stage.the-variants.{First, Middle, Last}
 use Rattle.table.specs.Table.{Table, maxJobs, jobsBytes, goalBytes, tableBytes}
 use Rattle.table.specs.Read.{allowed, due, factsInRange, readEnd, readGoal, readJobs, readTable, jobsOf}
-use Rattle.table.specs.ReadLaws.{due-whole, due-told, facts-inside, goal-inside, job-inside, end-inside, job-byte, end-whole, jobs-goal, jobs-full, jobs-bad, jobs-more, table-facts, table-no-facts}
+use Rattle.table.specs.ReadLaws.{due-whole, due-told, facts-inside, goal-inside, end-inside, job-due, end-whole, jobs-goal, jobs-full, jobs-bad, jobs-more, table-facts, table-no-facts}
 use Rattle.table.specs.Sound.{Sound, Storable, validatedFrom, validatedTable}
 
 -- ---- lists
@@ -62,17 +62,23 @@ goal-due : (s : List ℕ) (goal at : ℕ) → drop at s ≡ goalBytes goal → a
 unfolding goalBytes widthOf
 goal-due s goal at e = due-here Middle s (toBytes 8 goal) (END-OF-TABLE ∷ []) at GOAL _ _ e (to-length 8 goal) refl refl (omega arith)
 
-job-due : (s rest : List ℕ) (at : ℕ) (j : Job) → drop at s ≡ jobBytes j ++ rest → accepted (record { value = JOB; next = at + jobSize j }) ≡ due Middle s at
-unfolding jobBytes toBytes widthOf
-job-due s rest at j e =
-    due-here Middle s (toBytes 8 (j .needs) ++ (toBytes 8 (j .adds) ++ (toBytes 8 (j .deletes) ++ toBytes 2 (j .seconds)))) rest at JOB _ _ e refl refl refl (omega (arith, job-size j))
+job-allowed : (paired : Bool) → allowed Middle (commandBy paired) ≡ true
+job-allowed false = refl
+job-allowed true = refl
+
+due-job : (s rest : List ℕ) (at : ℕ) (j : Job) → drop at s ≡ jobBytes j ++ rest → accepted (record { value = commandBy (j .paired); next = at + jobSize j }) ≡ due Middle s at
+unfolding jobBytes
+due-job s rest at j e =
+    due-here Middle s (operandsBy (j .paired) j) rest at (commandBy (j .paired)) _ _ e refl (by-width (j .paired) j) (job-allowed (j .paired))
+    (omega (arith, job-size j, by-size (j .paired) j))
 
 facts-due : (t : Table) → accepted (record { value = FACTS; next = FACTS-SIZE }) ≡ due First (tableBytes t) 0
 unfolding tableBytes widthOf
 facts-due t = due-here First (tableBytes t) (t .facts ∷ []) (jobsBytes (t .jobs) ++ goalBytes (t .goal)) 0 FACTS _ _ refl refl refl refl refl
 
-no-goal : JOB ≡ GOAL → ⊥
-no-goal = eqb-false JOB GOAL refl
+no-goal : (paired : Bool) → commandBy paired ≡ GOAL → ⊥
+no-goal false = eqb-false JOB GOAL refl
+no-goal true = eqb-false PAIRED-JOB GOAL refl
 
 module _ (s : List ℕ) (facts goal : ℕ) (fits : goal < 2 ^ 64) where
   tableWith : List Job → Table
@@ -93,7 +99,7 @@ module _ (s : List ℕ) (facts goal : ℕ) (fits : goal < 2 ^ 64) where
       → readJobs s facts left js at ≡ validatedFrom facts goal left js ks at
   unfolding jobsBytes validatedFrom
   read-jobs left [] js at h e = sym (jobs-goal s facts js at _ (goal-due s goal at e) left refl) ∙ read-goal js at e
-  read-jobs zero (k ∷ ks) js at h e = sym (jobs-full s facts js at _ (job-due s _ at k (e ∙ append-assoc (jobBytes k) (jobsBytes ks) (goalBytes goal))) no-goal)
+  read-jobs zero (k ∷ ks) js at h e = sym (jobs-full s facts js at _ (due-job s _ at k (e ∙ append-assoc (jobBytes k) (jobsBytes ks) (goalBytes goal))) (no-goal (k .paired)))
   read-jobs (suc left) (k ∷ ks) js at h e =
       next (validatedJob facts at k) refl
       (λ j. read-jobs left ks (js ++ (j ∷ [])) (at + jobSize k) (λ i. h (suc i)) (drop-next s (jobBytes k) (jobsBytes ks ++ goalBytes goal) at (jobSize k) split (job-length k)))
@@ -107,8 +113,8 @@ module _ (s : List ℕ) (facts goal : ℕ) (fits : goal < 2 ^ 64) where
       next : (r : Checked Job) → validatedJob facts at k ≡ r
           → ((j : Job) → readJobs s facts left (js ++ (j ∷ [])) (at + jobSize k) ≡ validatedFrom facts goal left (js ++ (j ∷ [])) ks (at + jobSize k))
           → readJobs s facts (suc left) js at ≡ andThen r (λ j. validatedFrom facts goal left (js ++ (j ∷ [])) ks (at + jobSize k))
-      next (accepted j) q ih = sym (jobs-more s facts js at _ (job-due s _ at k split) no-goal left j (its (accepted j) q)) ∙ ih j
-      next (refused n p) q ih = sym (jobs-bad s facts js at _ (job-due s _ at k split) no-goal left n p (its (refused n p) q))
+      next (accepted j) q ih = sym (jobs-more s facts js at _ (due-job s _ at k split) (no-goal (k .paired)) left j (its (accepted j) q)) ∙ ih j
+      next (refused n p) q ih = sym (jobs-bad s facts js at _ (due-job s _ at k split) (no-goal (k .paired)) left n p (its (refused n p) q))
 
 -- the bytes of a table are validated as the table is
 pub read-written : (t : Table) → Storable t → readTable (tableBytes t) ≡ validatedTable t
@@ -163,7 +169,7 @@ unfolding validatedFrom
 sound-from facts goal left js [] at l h g = rw (g, append-nil)
 sound-from facts goal zero js (k ∷ ks) at l h g = absurd (omega arith)
 sound-from facts goal (suc left) js (k ∷ ks) at l h g =
-    ap (λ r. andThen r λ j. validatedFrom facts goal left (js ++ (j ∷ [])) ks (at + jobSize k)) (sym (validated-sound facts at k (h 0 (omega arith) .in-range) (h 0 (omega arith) .apart) (h 0 (omega arith) .in-time)))
+    ap (λ r. andThen r λ j. validatedFrom facts goal left (js ++ (j ∷ [])) ks (at + jobSize k)) (sym (validated-sound facts at k (h 0 (omega arith) .in-range) (h 0 (omega arith) .apart) (h 0 (omega arith) .in-time) (h 0 (omega arith) .one-way)))
     ∙ sound-from facts goal left (js ++ (k ∷ [])) ks (at + jobSize k) (omega arith) (λ i m. h (suc i) (omega arith)) g
     ∙ rw append-assoc
 
@@ -180,6 +186,10 @@ pub read-only : (t u : Table) → Storable t → readTable (tableBytes t) ≡ ac
 read-only t u h e = validated-table t u (sym (read-written t h) ∙ e)
 
 -- ---- writing what was read
+
+no-job-fits : StorableJob noJob
+no-job-fits =
+    record { needs-fit = omega arith; absent-fit = omega arith; adds-fit = omega arith; deletes-fit = omega arith; seconds-fit = omega arith; unpaired = λ e. refl }
 
 module _ (s : List ℕ) (b : AreBytes s) where
   written-goal : (at : ℕ) → getD s at 0 ≡ GOAL → getD s (at + GOAL-SIZE) 0 ≡ END-OF-TABLE → at + GOAL-SIZE + END-OF-TABLE-SIZE ≡ length s
@@ -214,7 +224,7 @@ module _ (s : List ℕ) (b : AreBytes s) where
         goal = numberAt 8 s (at + OPERANDS-AT);
         is-table = rw append-nil (accepted-same (l .1));
         there = written-goal at e (d .0) (omega (arith, d .1, eqb-true (c .0 .next) (length s) (l .0)));
-        jobs-fit = λ i. record { needs-fit = omega arith; adds-fit = omega arith; deletes-fit = omega arith; seconds-fit = omega arith };
+        jobs-fit = λ i. no-job-fits;
         goal-fits = number-lt 8 s (at + OPERANDS-AT) b;
       }
 
@@ -226,15 +236,15 @@ module _ (s : List ℕ) (b : AreBytes s) where
     rest-at-job : (c .value ≡ GOAL → ⊥) → (j : Job) → validatedJob facts at (jobAt s at) ≡ accepted j → Rest facts (js ++ (j ∷ [])) (c .next) t → Rest facts js at t
     unfolding jobsBytes
     rest-at-job g j q r =
-        let n = job-inside s at c (sym e) g in
+        let d = job-due s at c (sym e) g in
         let k : jobAt s at ≡ j = validated-told facts at (jobAt s at) j q .0 in
         record {
           ks = j ∷ r .ks;
           goal = r .goal;
           is-table = rw append-assoc at (r .is-table);
           there =
-              rw (append-assoc, r .there, n .0, ← k)
-              (written-job s b at (due-told Middle s at c (sym e) .whole .is-byte ∙ job-byte s at c (sym e) g) (n .1));
+              rw (append-assoc, r .there, d .is-next, ← k)
+              (written-job s b at (d .paired) (d .is-byte) (d .inside));
           jobs-fit = elim [ zero ↦ rw k at (job-fits s b at) | suc i ↦ r .jobs-fit i ];
           goal-fits = r .goal-fits;
         }

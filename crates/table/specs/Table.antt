@@ -1,6 +1,7 @@
--- The job table: document 01, "Commands". Its bytes: "A table is FACTS, then 0 to 128 JOBs numbered from 0, then GOAL, then END."
+-- The job table: document 01, "Commands"; document 02, W10. Its bytes: "A table is FACTS, then 0 to 128 JOBs numbered from 0, then GOAL, then END."
 -- Definitions only.
 use Prim.Native.Nat.{ℕ, _+_}
+use mathlib.Core.Bool.{Bool, false, _||_}
 use mathlib.Core.List.{List, [], _∷_, _++_}
 use lib.ListN.{length, take}
 use Rattle.commands.specs.Commands.{FACTS, GOAL, END-OF-TABLE, FACTS-SIZE}
@@ -22,6 +23,11 @@ maxJobs = 128
 unfoldable pub jobsBytes : List Job → List ℕ
 jobsBytes [] = []
 jobsBytes (j ∷ js) = jobBytes j ++ jobsBytes js
+
+-- "once the table has a 0x21"
+unfoldable pub hasPair : List Job → Bool
+hasPair [] = false
+hasPair (j ∷ js) = j .paired || hasPair js
 
 unfoldable pub goalBytes : ℕ → List ℕ
 goalBytes goal = GOAL ∷ toBytes 8 goal ++ (END-OF-TABLE ∷ [])

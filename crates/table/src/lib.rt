@@ -1,5 +1,5 @@
 // The job table, read from bytes, with every check that the papers make of a table (document 01, "Commands" and "Stops, in
-// checking order", 1 to 7; document 02, W3, 19).
+// checking order", 1 to 7; document 02, W3, 19, and W10, 22).
 use commands::Found;
 use job::Job;
 use job::Validated;
@@ -8,11 +8,12 @@ use refusal::Refusal;
 ghost use mathlib.Core.Path.{_≡_};
 ghost use Prim.Native.Nat.{_+_, _≤_, _<_};
 ghost use lib.ListN.{length, getD};
+ghost use mathlib.Core.Bool.{_||_};
 ghost use mathlib.Core.List.{List, []};
 ghost use Rattle.refusal.specs.Checked.{accepted, andThen};
 ghost use Rattle.commands.specs.Commands.{GOAL-SIZE};
 ghost use Rattle.job.specs.Job.{noJob};
-ghost use Rattle.table.specs.Table.{Table, maxJobs};
+ghost use Rattle.table.specs.Table.{Table, maxJobs, hasPair};
 ghost use Rattle.table.specs.Read.{allowed, due, dueOf, factsInRange, readEnd, readGoal, readJobs, readTable, jobsOf, namedJob, headerOf, headed, tableReadOf, jobReadOf};
 
 // The most facts and jobs that a table may have.
@@ -20,11 +21,12 @@ pub const MAX_FACTS: usize = 64;
 
 pub const MAX_JOBS: usize = 128;
 
-// What a sound table says besides its jobs.
+// What a sound table says besides its jobs; `paired` where one of them has the command with absent facts.
 pub struct Header {
     pub facts: u8,
     pub jobs: usize,
     pub goal: u64,
+    pub paired: bool,
 }
 
 pub enum TableRead {
@@ -53,7 +55,12 @@ fn is_allowed(stage: Stage, byte: u8) -> bool
 {
     match stage {
         Stage::First => byte == commands::FACTS,
-        Stage::Middle => byte == commands::JOB || byte == commands::GOAL,
+        Stage::Middle => {
+            if byte == commands::JOB {
+                return true;
+            }
+            byte == commands::PAIRED_JOB || byte == commands::GOAL
+        }
         Stage::Last => byte == commands::END_OF_TABLE,
     }
 }
@@ -111,16 +118,32 @@ fn read_end(s: &[u8], header: Header, at: usize) -> TableRead
 }
 
 // GOAL at an offset, whose operand ends before `next`, after as many jobs.
-fn read_goal(s: &[u8], facts: u8, jobs: usize, at: usize, next: usize) -> TableRead
+fn read_goal(s: &[u8], facts: u8, jobs: usize, paired: bool, at: usize, next: usize) -> TableRead
     requires { ⌜ at + GOAL-SIZE ≤ length (now s) ⌝ }
-    ensures { λ r. ⌜ ((js : List Job) → length js ≡ jobs → tableReadOf r ≡ headed (readGoal (now (s .entry)) facts js at next)) ⌝ }
+    ensures { λ r. ⌜ ((js : List Job) → length js ≡ jobs → hasPair js ≡ paired → tableReadOf r ≡ headed (readGoal (now (s .entry)) facts js at next)) ⌝ }
 {
     let goal = numbers::read_u64(s, at + commands::OPERANDS_AT);
     if masks::is_within(facts, goal) {
-        read_end(s, Header { facts, jobs, goal }, next)
+        read_end(
+            s,
+            Header {
+                facts,
+                jobs,
+                goal,
+                paired,
+            },
+            next,
+        )
     } else {
         refused(Reason::TableMaskOutOfRange, at)
     }
+}
+
+// Has one of the jobs before, or this one, the command with absent facts?
+fn with_pair(before: bool, job: Job) -> bool
+    ensures { λ r. ⌜ r ≡ (before || job .paired) ⌝ }
+{
+    before || job.paired
 }
 
 // The JOBs from an offset on, then GOAL and END.
@@ -129,6 +152,7 @@ fn read_jobs(s: &[u8], facts: u8, first: usize) -> TableRead
 {
     let mut at = first;
     let mut jobs: usize = 0;
+    let mut paired = false;
     loop {
         match command_due(s, at, Stage::Middle) {
             Due::Refused(x) => {
@@ -136,19 +160,21 @@ fn read_jobs(s: &[u8], facts: u8, first: usize) -> TableRead
             }
             Due::Command(byte, next) => {
                 if byte == commands::GOAL {
-                    return read_goal(s, facts, jobs, at, next);
+                    return read_goal(s, facts, jobs, paired, at, next);
                 }
                 if jobs == MAX_JOBS {
                     return refused(Reason::TooManyJobs, at);
                 }
                 let past = job::job_from(s, at);
-                match job::validate_job(facts, at, past.job) {
+                let job = past.job;
+                match job::validate_job(facts, at, job) {
                     Validated::Refused(x) => {
                         return TableRead::Refused(x);
                     }
                     Validated::Sound => {
                         at = next;
                         jobs += 1;
+                        paired = with_pair(paired, job);
                     }
                 }
             }

@@ -1,5 +1,6 @@
-// Runs the table writer and reader over document 01's trailer table and over damaged copies of it, and prints what they answer.
-// What is printed is compared with the file `stdout`, which an account of the papers made that shares no code with ours.
+// Runs the table writer and reader over document 01's trailer table, over one of both kinds of jobs (document 02, W10) and over damaged copies
+// of both, and prints what they answer. What is printed is compared with the file `stdout`, which an account of the papers made that shares no code with ours.
+use job::Job;
 use libc::STDOUT_FILENO;
 use refusal::Refusal;
 use table::JobRead;
@@ -31,6 +32,9 @@ fn show(s: &[u8]) {
             number(header.facts as usize);
             number(header.jobs);
             mask(header.goal);
+            if header.paired {
+                io::write_all(STDOUT_FILENO, b" paired");
+            }
         }
         TableRead::Refused(x) => {
             show_refusal(x);
@@ -39,18 +43,27 @@ fn show(s: &[u8]) {
     io::write_all(STDOUT_FILENO, b"\n");
 }
 
+// A job; of one with the command for absent facts, these and the command besides.
+fn show_job(i: usize, job: Job) {
+    io::write_all(STDOUT_FILENO, b"job");
+    number(i);
+    mask(job.needs);
+    mask(job.adds);
+    mask(job.deletes);
+    number(job.seconds as usize);
+    if job.paired {
+        mask(job.absent);
+        number(job::command_of(job) as usize);
+    }
+}
+
 // One line for each of the first `count` job numbers.
 fn show_jobs(s: &[u8], count: usize) {
     let mut i: usize = 0;
     while i < count {
         match table::read_job(s, i) {
             JobRead::Named(job) => {
-                io::write_all(STDOUT_FILENO, b"job");
-                number(i);
-                mask(job.needs);
-                mask(job.adds);
-                mask(job.deletes);
-                number(job.seconds as usize);
+                show_job(i, job);
             }
             JobRead::Refused(x) => {
                 show_refusal(x);
@@ -103,6 +116,10 @@ fn show_written(w: TableWritten) {
         TableWritten::Uneven => {
             io::write_all(STDOUT_FILENO, b"uneven");
         }
+        TableWritten::Unwritable(i) => {
+            io::write_all(STDOUT_FILENO, b"unwritable");
+            number(i);
+        }
         TableWritten::Refused(x) => {
             show_refusal(x);
         }
@@ -117,13 +134,22 @@ fn put(s: &mut [u8], at: usize, b: u8) {
     }
 }
 
+// The bytes with one of them replaced.
+fn show_with(s: &mut [u8], at: usize, b: u8) {
+    put(s, at, b);
+    show(s);
+}
+
 // One job more than a table may have.
 const MANY: usize = table::MAX_JOBS + 1;
 
-// A table of as many equal jobs, whole and with its last JOB cut.
-fn show_many(count: usize) {
-    let mut out = [0u8; 4096];
+// A table of as many equal jobs of one kind, whole and with its last job cut.
+fn show_many(count: usize, command: u8, size: usize) {
+    let mut out = [0u8; 4608];
     if MANY < count {
+        return;
+    }
+    if commands::PAIRED_JOB_SIZE < size {
         return;
     }
     put(&mut out, 0, commands::FACTS);
@@ -131,8 +157,8 @@ fn show_many(count: usize) {
     let mut at: usize = commands::FACTS_SIZE;
     let mut i: usize = 0;
     while i < count {
-        put(&mut out, at, commands::JOB);
-        at += commands::JOB_SIZE;
+        put(&mut out, at, command);
+        at += size;
         i += 1;
     }
     show_part(&out, at);
@@ -144,19 +170,48 @@ fn show_many(count: usize) {
     show_part(&out, end + 1);
 }
 
-// The command at an offset replaced by each command byte in turn.
-fn show_commands(s: &mut [u8], at: usize) {
+// The command at an offset replaced by each command byte in turn, and then by its own again.
+fn show_commands(s: &mut [u8], at: usize, own: u8) {
     let mut k: usize = 0;
     while k < commands::COUNT {
         let c = commands::COMMANDS[k];
-        put(s, at, c.byte);
-        show(s);
+        show_with(s, at, c.byte);
         k += 1;
     }
+    put(s, at, own);
+}
+
+// What writing a table of five jobs answers.
+fn show_columns(
+    facts: usize,
+    commands: [u8; 5],
+    needs: [u64; 5],
+    absent: [u64; 5],
+    adds: [u64; 5],
+    deletes: [u64; 5],
+    seconds: [u16; 5],
+    goal: u64,
+    out: &mut [u8],
+) {
+    show_written(table_writer::write_table(
+        facts,
+        &commands,
+        &needs,
+        &absent,
+        &adds,
+        &deletes,
+        &seconds,
+        goal,
+        out,
+    ));
 }
 
 // The trailer's jobs.
+const PLAIN: [u8; 5] = [commands::JOB; 5];
+
 const NEEDS: [u64; 5] = [0x01, 0x02, 0x01, 0x02, 0x0c];
+
+const NONE: [u64; 5] = [0; 5];
 
 const ADDS: [u64; 5] = [0x02, 0x01, 0x04, 0x08, 0x10];
 
@@ -164,7 +219,7 @@ const DELETES: [u64; 5] = [0x01, 0x02, 0x00, 0x00, 0x00];
 
 const SECONDS: [u16; 5] = [300, 240, 600, 600, 150];
 
-// What writing a table of five jobs answers.
+// What writing the trailer's table with other effects and seconds answers.
 fn show_writing(
     facts: usize,
     adds: [u64; 5],
@@ -173,8 +228,7 @@ fn show_writing(
     goal: u64,
     out: &mut [u8],
 ) {
-    let needs = NEEDS;
-    show_written(table_writer::write_table(facts, &needs, &adds, &deletes, &seconds, goal, out));
+    show_columns(facts, PLAIN, NEEDS, NONE, adds, deletes, seconds, goal, out);
 }
 
 // What writing the trailer's table with so many facts answers.
@@ -182,27 +236,22 @@ fn show_facts(facts: usize, out: &mut [u8]) {
     show_writing(facts, ADDS, DELETES, SECONDS, 0x10, out);
 }
 
-// The trailer's table, whole, cut and changed.
-fn show_trailer(out: &mut [u8]) {
-    show_facts(5, out);
-    show(out);
-    show_jobs(out, 6);
-    show_cuts(out);
-    show_changes(out, 0x80);
-    show_changes(out, 0x01);
-    show_changes(out, 0x3F);
+// A table of five jobs, whole, cut and changed.
+fn show_damaged(s: &mut [u8]) {
+    show(s);
+    show_jobs(s, 6);
+    show_cuts(s);
+    show_changes(s, 0x80);
+    show_changes(s, 0x01);
+    show_changes(s, 0x3F);
 }
 
 // The trailer's FACTS, second JOB, GOAL and END replaced, one at a time.
 fn show_replaced(out: &mut [u8]) {
-    show_commands(out, 0);
-    put(out, 0, commands::FACTS);
-    show_commands(out, 29);
-    put(out, 29, commands::JOB);
-    show_commands(out, 137);
-    put(out, 137, commands::GOAL);
-    show_commands(out, 146);
-    put(out, 146, commands::END_OF_TABLE);
+    show_commands(out, 0, commands::FACTS);
+    show_commands(out, 29, commands::JOB);
+    show_commands(out, 137, commands::GOAL);
+    show_commands(out, 146, commands::END_OF_TABLE);
     show(out);
 }
 
@@ -217,13 +266,25 @@ fn show_refused(out: &mut [u8]) {
     show_writing(5, NEEDS, DELETES, SECONDS, 0x10, out);
 }
 
-// Columns of different length, and a slice that is one byte too short.
+// Columns of different length, beside a row that cannot be written, and a slice that is one byte too short.
 fn show_misfits(out: &mut [u8]) {
+    let commands = NO_JOB;
     let needs = NEEDS;
+    let absent = NONE;
     let four = [0x02u64, 0x01, 0x04, 0x08];
     let deletes = DELETES;
     let seconds = SECONDS;
-    show_written(table_writer::write_table(5, &needs, &four, &deletes, &seconds, 0x10, out));
+    show_written(table_writer::write_table(
+        5,
+        &commands,
+        &needs,
+        &absent,
+        &four,
+        &deletes,
+        &seconds,
+        0x10,
+        out,
+    ));
     let mut short = [0u8; 146];
     show_facts(5, &mut short);
     show(out);
@@ -257,25 +318,125 @@ fn show_longer(out: &mut [u8]) {
 
 // The low byte of job 2's seconds makes them 5,401: alone, with its operands cut, and with faults of later commands.
 fn show_longer_read(out: &mut [u8]) {
-    put(out, 81, 0x19);
-    show(out);
+    show_with(out, 81, 0x19);
     show_part(out, 82);
     show_part(out, 146);
-    put(out, 137, commands::JOB);
+    show_with(out, 137, commands::JOB);
+}
+
+// Both kinds of jobs: a trailer that needs not to be on. Job 0 adds a fact that it needs absent, job 2 deletes one, and job 4 needs none absent.
+const MIXED: [u8; 5] = [
+    commands::PAIRED_JOB,
+    commands::JOB,
+    commands::PAIRED_JOB,
+    commands::JOB,
+    commands::PAIRED_JOB,
+];
+
+const MIXED_NEEDS: [u64; 5] = [0x00, 0x02, 0x01, 0x02, 0x0c];
+
+const ABSENT: [u64; 5] = [0x02, 0x00, 0x02, 0x00, 0x00];
+
+const MIXED_DELETES: [u64; 5] = [0x01, 0x02, 0x02, 0x00, 0x00];
+
+// What writing the table of both kinds with other commands and absent facts answers.
+fn show_mixing(facts: usize, commands: [u8; 5], absent: [u64; 5], out: &mut [u8]) {
+    show_columns(
+        facts,
+        commands,
+        MIXED_NEEDS,
+        absent,
+        ADDS,
+        MIXED_DELETES,
+        SECONDS,
+        0x10,
+        out,
+    );
+}
+
+// Its first three jobs replaced, one at a time.
+fn show_mixed_replaced(out: &mut [u8]) {
+    show_commands(out, 2, commands::PAIRED_JOB);
+    show_commands(out, 37, commands::JOB);
+    show_commands(out, 64, commands::PAIRED_JOB);
+}
+
+// Job 2's needs and absent facts meet: alone, with its operands cut, with a fault of a later command, and beside its other faults.
+fn show_contradiction(out: &mut [u8]) {
+    show_with(out, 73, 0x03);
+    show_part(out, 98);
+    show_with(out, 161, commands::JOB);
+    put(out, 97, 0x19);
+    show_with(out, 98, 0x15);
+    show_with(out, 81, 0x01);
+    show_with(out, 73, 0x23);
+}
+
+// Rows that no command's bytes can hold: a JOB with absent facts, and commands that are no job's.
+const DROPPED: [u64; 5] = [0x02, 0x01, 0x02, 0x01, 0x00];
+
+const NO_JOB: [u8; 5] = [
+    commands::PAIRED_JOB,
+    commands::JOB,
+    commands::PAIRED_JOB,
+    commands::JOB,
+    commands::JOB_LEAF,
+];
+
+const NO_JOB_FIRST: [u8; 5] = [
+    0x00,
+    commands::JOB,
+    commands::PAIRED_JOB,
+    commands::JOB,
+    commands::JOB_LEAF,
+];
+
+// Job 2 needs a fact that it needs absent.
+const MEETING: [u64; 5] = [0x02, 0x00, 0x01, 0x00, 0x00];
+
+// Rows that cannot be written are told before anything is judged, the first of them first. What is refused, or finds the slice one byte too short,
+// writes nothing.
+fn show_mixed_refused(out: &mut [u8]) {
+    show_mixing(5, MIXED, DROPPED, out);
+    show_mixing(5, NO_JOB, ABSENT, out);
+    show_mixing(0, NO_JOB_FIRST, DROPPED, out);
+    show_mixing(5, MIXED, MEETING, out);
+    show_mixing(1, MIXED, ABSENT, out);
+    let mut short = [0u8; 170];
+    show_mixing(5, MIXED, ABSENT, &mut short);
     show(out);
 }
 
+// Document 01's trailer.
+fn show_trailer(out: &mut [u8]) {
+    show_facts(5, out);
+    show_damaged(out);
+    show_many(0, commands::JOB, commands::JOB_SIZE);
+    show_many(1, commands::JOB, commands::JOB_SIZE);
+    show_many(128, commands::JOB, commands::JOB_SIZE);
+    show_many(129, commands::JOB, commands::JOB_SIZE);
+    show_replaced(out);
+    show_refused(out);
+    show_misfits(out);
+    show_longest(out);
+    show_longer(out);
+    show_longer_read(out);
+}
+
+// The table of both kinds of jobs.
+fn show_mixed(out: &mut [u8]) {
+    show_mixing(5, MIXED, ABSENT, out);
+    show_damaged(out);
+    show_mixed_replaced(out);
+    show_mixed_refused(out);
+    show_contradiction(out);
+    show_many(128, commands::PAIRED_JOB, commands::PAIRED_JOB_SIZE);
+    show_many(129, commands::PAIRED_JOB, commands::PAIRED_JOB_SIZE);
+}
+
 fn main() {
-    let mut out = [0u8; 147];
-    show_trailer(&mut out);
-    show_many(0);
-    show_many(1);
-    show_many(128);
-    show_many(129);
-    show_replaced(&mut out);
-    show_refused(&mut out);
-    show_misfits(&mut out);
-    show_longest(&mut out);
-    show_longer(&mut out);
-    show_longer_read(&mut out);
+    let mut trailer = [0u8; 147];
+    show_trailer(&mut trailer);
+    let mut mixed = [0u8; 171];
+    show_mixed(&mut mixed);
 }

@@ -1,55 +1,64 @@
--- `job::job_from` meets its contract: the four operands stand where the definition reads them.
+-- `job::job_from` meets its contract, by the job's command.
 -- Assumes nothing.
+use Prim.Native.Nat.{ℕ, _+_}
 use native.Mathlib.Omega.{arith}
+use mathlib.Core.Path.{ap, _∙_}
+use mathlib.Core.Bool.{true}
 use borrow.Author.Needs.{needs}
-use Rattle.job.specs.Job.{jobAt}
-use Rattle.job.specs.JobLaws.{job-size}
+use Rattle.commands.specs.Commands.{PAIRED-ADDS-AT, PAIRED-JOB-SIZE}
+use Rattle.job.specs.Job.{jobWith}
+use Rattle.job.specs.JobLaws.{from-pair, from-plain, from-byte}
 use Rattle.job.proofs.job_from.Statement.{statement}
 use Rattle.job.proofs.job_from.Tie as tie
+
+shared-slice-read-byte : tie.Need-shared-slice-read-byte
+shared-slice-read-byte c =
+    let a = c .before .before .args in
+    omega (arith, from-byte (a .s .now) (a .at), c .before .before .pre)
 
 add-read-u64 : tie.Need-add-read-u64
 add-read-u64 c = search needs
 
+-- the job's bytes, all of which are there
 read-u64-requires : tie.Need-read-u64-requires
-read-u64-requires c κs = omega (arith, job-size (jobAt (c .before .args .s .now) (c .before .args .at)))
+read-u64-requires c κs =
+    let start = c .before .before .before in
+    let ends = ap (λ p. p .next) (from-pair (start .args .s .now) (start .args .at) (c .if1 .taken)) in
+    omega (arith, ends, start .pre)
 
-add-read-u64-2 : tie.Need-add-read-u64-2
-add-read-u64-2 c = search needs
-
-read-u64-requires-2 : tie.Need-read-u64-requires-2
-read-u64-requires-2 c κs = omega (arith, job-size (jobAt (c .before .before .args .s .now) (c .before .before .args .at)))
-
-add-read-u64-3 : tie.Need-add-read-u64-3
-add-read-u64-3 c = search needs
-
-read-u64-requires-3 : tie.Need-read-u64-requires-3
-read-u64-requires-3 c κs = omega (arith, job-size (jobAt (c .before .before .before .args .s .now) (c .before .before .before .args .at)))
-
-add-read-u16 : tie.Need-add-read-u16
-add-read-u16 c = search needs
-
-read-u16-requires : tie.Need-read-u16-requires
-read-u16-requires c κs = omega (arith, job-size (jobAt (c .before .before .before .before .args .s .now) (c .before .before .before .before .args .at)))
-
-add-t7 : tie.Need-add-t7
-add-t7 c = search needs
+job-with-requires : tie.Need-job-with-requires
+job-with-requires c κs =
+    let start = c .before .before .before .before in
+    let ends = ap (λ p. p .next) (from-pair (start .args .s .now) (start .args .at) (c .before .if1 .taken)) in
+    (omega (arith, ends, start .pre), omega arith)
 
 returns : tie.Need-returns
-unfolding jobAt
 returns c =
-    rw (job-size _, ← c .read-u16 .ensures, ← c .before .read-u643 .ensures, ← c .before .before .read-u642 .ensures, ← c .before .before .before .read-u64 .ensures)
+    let start = c .before .before .before .before .before in
+    let s = start .args .s .now in
+    c .job-with .ensures
+    ∙ ap (λ (absent : ℕ). record { value = jobWith true absent PAIRED-ADDS-AT s (start .args .at); next = start .args .at + PAIRED-JOB-SIZE }) (c .before .read-u64 .ensures)
+    ∙ from-pair s (start .args .at) (c .before .before .if1 .taken)
+
+job-with-requires-2 : tie.Need-job-with-requires-2
+job-with-requires-2 c κs =
+    let start = c .before .before .before in
+    let ends = ap (λ p. p .next) (from-plain (start .args .s .now) (start .args .at) (c .if1 .left)) in
+    (omega (arith, ends, start .pre), omega arith)
+
+returns-2 : tie.Need-returns-2
+returns-2 c =
+    let start = c .before .before .before .before in
+    c .job-with2 .ensures ∙ from-plain (start .args .s .now) (start .args .at) (c .before .if1 .left)
 
 pub job-from-spec : {M : Type 1} → statement M
 job-from-spec =
     tie.close
     (tie.spec
+    shared-slice-read-byte
     add-read-u64
     read-u64-requires
-    add-read-u64-2
-    read-u64-requires-2
-    add-read-u64-3
-    read-u64-requires-3
-    add-read-u16
-    read-u16-requires
-    add-t7
-    returns)
+    job-with-requires
+    returns
+    job-with-requires-2
+    returns-2)

@@ -15,21 +15,22 @@ use Rattle.job_rows.proofs.load_jobs.Statement.{statement}
 use Rattle.job_rows.proofs.load_jobs.Tie as tie
 
 abbrev Inv-loop : tie.InvT-loop
-Inv-loop table count needs₀ adds₀ deletes₀ seconds₀ at₀ i₀ needs adds deletes seconds at i =
-    ((i ≤ count) × (length needs ≡ length needs₀) × (length adds ≡ length adds₀) × (length deletes ≡ length deletes₀) × (length seconds ≡ length seconds₀))
+Inv-loop table count needs₀ absent₀ adds₀ deletes₀ seconds₀ at₀ i₀ needs absent adds deletes seconds at i =
+    ((i ≤ count) × (length needs ≡ length needs₀) × (length absent ≡ length absent₀) × (length adds ≡ length adds₀) × (length deletes ≡ length deletes₀) × (length seconds ≡ length seconds₀))
     × (at ≡ offsetOf (jobsOf (readTable table)) i)
     × (needs ≡ loaded (λ j. j .needs) (jobsOf (readTable table)) needs₀ i)
+    × (absent ≡ loaded (λ j. j .absent) (jobsOf (readTable table)) absent₀ i)
     × (adds ≡ loaded (λ j. j .adds) (jobsOf (readTable table)) adds₀ i)
     × (deletes ≡ loaded (λ j. j .deletes) (jobsOf (readTable table)) deletes₀ i)
     × (seconds ≡ loaded (λ j. j .seconds) (jobsOf (readTable table)) seconds₀ i)
 
 abbrev μ-loop : tie.MeasureT-loop
-μ-loop table count needs₀ adds₀ deletes₀ seconds₀ at₀ i₀ needs adds deletes seconds at i = count - i
+μ-loop table count needs₀ absent₀ adds₀ deletes₀ seconds₀ at₀ i₀ needs absent adds deletes seconds at i = count - i
 
 -- ---- the places that several answers look back at
 
 abbrev known-of : tie.At-loop Inv-loop μ-loop → tie.After-shared-slice-known Inv-loop μ-loop
-known-of c = c .before .before .before .before .before
+known-of c = c .before .before .before .before .before .before
 
 abbrev start-of : tie.At-loop Inv-loop μ-loop → tie.Start Inv-loop μ-loop
 start-of c = known-of c .before
@@ -43,7 +44,7 @@ here c =
 -- ---- the needs
 
 loop-holds : tie.Need-loop-holds Inv-loop μ-loop
-loop-holds c = (search needs, sym (first-offset _), search needs, search needs, search needs, search needs)
+loop-holds c = (search needs, sym (first-offset _), search needs, search needs, search needs, search needs, search needs)
 
 job-from-requires : tie.Need-job-from-requires Inv-loop μ-loop
 job-from-requires c κs = here c .ends
@@ -53,6 +54,12 @@ mul-needs c = search needs
 
 slice-write-needs : tie.Need-slice-write-needs Inv-loop μ-loop
 slice-write-needs c = search needs
+
+mul-absent : tie.Need-mul-absent Inv-loop μ-loop
+mul-absent c = search needs
+
+slice-write-absent : tie.Need-slice-write-absent Inv-loop μ-loop
+slice-write-absent c = search needs
 
 mul-adds : tie.Need-mul-adds Inv-loop μ-loop
 mul-adds c = search needs
@@ -89,9 +96,10 @@ loop-again c =
       simp length-set (omega (arith, inside, l .inv .0)),
       ap (λ p. p .next) (c .before .job-from .ensures) ∙ here t .is-next,
       load-turn (λ j. j .needs) jobs _ _ (l .i) _ (l .inv .2) job (omega (arith, inside, s .pre)) (omega (arith, inside, s .pre)),
-      load-turn (λ j. j .adds) jobs _ _ (l .i) _ (l .inv .3) job (omega (arith, inside, s .pre)) (omega (arith, inside, s .pre)),
-      load-turn (λ j. j .deletes) jobs _ _ (l .i) _ (l .inv .4) job (omega (arith, inside, s .pre)) (omega (arith, inside, s .pre)),
-      load-turn (λ j. j .seconds) jobs _ _ (l .i) _ (l .inv .5) job (omega (arith, inside, s .pre)) (omega (arith, inside, s .pre)),
+      load-turn (λ j. j .absent) jobs _ _ (l .i) _ (l .inv .3) job (omega (arith, inside, s .pre)) (omega (arith, inside, s .pre)),
+      load-turn (λ j. j .adds) jobs _ _ (l .i) _ (l .inv .4) job (omega (arith, inside, s .pre)) (omega (arith, inside, s .pre)),
+      load-turn (λ j. j .deletes) jobs _ _ (l .i) _ (l .inv .5) job (omega (arith, inside, s .pre)) (omega (arith, inside, s .pre)),
+      load-turn (λ j. j .seconds) jobs _ _ (l .i) _ (l .inv .6) job (omega (arith, inside, s .pre)) (omega (arith, inside, s .pre)),
     )
 
 same-length : tie.Need-same-length Inv-loop μ-loop
@@ -106,11 +114,14 @@ same-length-3 c = search needs
 same-length-4 : tie.Need-same-length-4 Inv-loop μ-loop
 same-length-4 c = search needs
 
+same-length-5 : tie.Need-same-length-5 Inv-loop μ-loop
+same-length-5 c = search needs
+
 returns : tie.Need-returns Inv-loop μ-loop
 returns c =
     let l = c .before .loop in
     let n : l .i ≡ start-of (c .before) .args .count = omega arith in
-    (rw n at (l .inv .2), rw n at (l .inv .3), rw n at (l .inv .4), rw n at (l .inv .5))
+    (rw n at (l .inv .2), rw n at (l .inv .3), rw n at (l .inv .4), rw n at (l .inv .5), rw n at (l .inv .6))
 
 pub load-jobs-spec : {M : Type 1} → statement M
 load-jobs-spec =
@@ -122,6 +133,8 @@ load-jobs-spec =
     job-from-requires
     mul-needs
     slice-write-needs
+    mul-absent
+    slice-write-absent
     mul-adds
     slice-write-adds
     mul-deletes
@@ -135,4 +148,5 @@ load-jobs-spec =
     same-length-2
     same-length-3
     same-length-4
+    same-length-5
     returns)

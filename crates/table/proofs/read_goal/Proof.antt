@@ -26,14 +26,14 @@ refused-requires : tie.Need-refused-requires
 refused-requires c κs = search needs
 
 returns : tie.Need-returns
-returns c js h =
+returns c js h p =
     let a = c .before .before .before .before .before .args in
     let g = c .before .before .before .read-u64 .ensures in
-    c .read-end .ensures (record { facts = a .facts; jobs = js; goal = numberAt 8 (a .s .now) (a .at + 1) }) (λ i. record { facts = a .facts; jobs = h i; goal = sym g i })
+    c .read-end .ensures (record { facts = a .facts; jobs = js; goal = numberAt 8 (a .s .now) (a .at + 1) }) (λ i. record { facts = a .facts; jobs = h i; goal = sym g i; paired = p i })
     ∙ ap headed (goal-in _ _ js _ _ (ap (within (a .facts)) (sym g) ∙ sym (c .before .before .is-within .ensures) ∙ c .before .if1 .taken))
 
 returns-2 : tie.Need-returns-2
-returns-2 c js h =
+returns-2 c js h p =
     let a = c .before .before .before .before .before .args in
     ap tableReadOf (c .refused .ensures)
     ∙ ap headed (goal-out _ _ js _ _ (ap (within (a .facts)) (sym (c .before .before .before .read-u64 .ensures)) ∙ sym (c .before .before .is-within .ensures) ∙ c .before .if1 .left))

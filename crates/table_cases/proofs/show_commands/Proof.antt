@@ -8,10 +8,10 @@ use Rattle.table_cases.proofs.show_commands.Statement.{statement}
 use Rattle.table_cases.proofs.show_commands.Tie as tie
 
 abbrev Inv-loop : tie.InvT-loop
-Inv-loop s₀ at k₀ s k = (k ≤ 9) × (length s ≡ length s₀)
+Inv-loop s₀ at own k₀ s k = (k ≤ 11) × (length s ≡ length s₀)
 
 abbrev μ-loop : tie.MeasureT-loop
-μ-loop s₀ at k₀ s k = 9 - k
+μ-loop s₀ at own k₀ s k = 11 - k
 
 loop-holds : tie.Need-loop-holds Inv-loop μ-loop
 loop-holds c = search needs
@@ -22,11 +22,8 @@ mul-c c = search needs
 array-copy-out-c : tie.Need-array-copy-out-c Inv-loop μ-loop
 array-copy-out-c c = search needs
 
-put-requires : tie.Need-put-requires Inv-loop μ-loop
-put-requires c κs = search needs
-
-show-requires : tie.Need-show-requires Inv-loop μ-loop
-show-requires c κs = search needs
+show-with-requires : tie.Need-show-with-requires Inv-loop μ-loop
+show-with-requires c κs = search needs
 
 add-k : tie.Need-add-k Inv-loop μ-loop
 add-k c = search needs
@@ -36,6 +33,9 @@ loop-less c = search needs
 
 loop-again : tie.Need-loop-again Inv-loop μ-loop
 loop-again c = search needs
+
+put-requires : tie.Need-put-requires Inv-loop μ-loop
+put-requires c κs = search needs
 
 same-length : tie.Need-same-length Inv-loop μ-loop
 same-length c = search needs
@@ -52,10 +52,10 @@ show-commands-spec =
     loop-holds
     mul-c
     array-copy-out-c
-    put-requires
-    show-requires
+    show-with-requires
     add-k
     loop-less
     loop-again
+    put-requires
     same-length
     returns)

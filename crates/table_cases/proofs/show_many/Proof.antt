@@ -1,21 +1,24 @@
--- `table_cases::show_many` is safe and ends: 129 jobs are within the buffer.
+-- `table_cases::show_many` is safe and ends: 129 jobs of either kind are within the buffer.
 -- Assumes nothing.
 use borrow.Author.Needs.{needs}
 use mathlib.Core.Path.{_≡_}
 use Prim.Native.Nat.{_+_, _*_, _-_, _≤_}
 use lib.ListN.{length}
-use Rattle.commands.specs.Commands.{FACTS-SIZE, JOB-SIZE}
+use Rattle.commands.specs.Commands.{FACTS-SIZE, PAIRED-JOB-SIZE}
 use Rattle.table_cases.proofs.show_many.Statement.{statement}
 use Rattle.table_cases.proofs.show_many.Tie as tie
 
 abbrev Inv-loop : tie.InvT-loop
-Inv-loop count out₀ at₀ i₀ out at i = (i ≤ count) × (at ≡ FACTS-SIZE + JOB-SIZE * i) × (length out ≡ 4096)
+Inv-loop count command size out₀ at₀ i₀ out at i = (i ≤ count) × (FACTS-SIZE ≤ at) × (at ≤ FACTS-SIZE + PAIRED-JOB-SIZE * i) × (length out ≡ 4608)
 
 abbrev μ-loop : tie.MeasureT-loop
-μ-loop count out₀ at₀ i₀ out at i = count - i
+μ-loop count command size out₀ at₀ i₀ out at i = count - i
 
 returns : tie.Need-returns Inv-loop μ-loop
 returns c = search needs
+
+returns-2 : tie.Need-returns-2 Inv-loop μ-loop
+returns-2 c = search needs
 
 slice-aggregate-put : tie.Need-slice-aggregate-put Inv-loop μ-loop
 slice-aggregate-put c = search needs
@@ -101,8 +104,8 @@ add-show-part c = search needs
 show-part-requires-4 : tie.Need-show-part-requires-4 Inv-loop μ-loop
 show-part-requires-4 c κs = search needs
 
-returns-2 : tie.Need-returns-2 Inv-loop μ-loop
-returns-2 c = search needs
+returns-3 : tie.Need-returns-3 Inv-loop μ-loop
+returns-3 c = search needs
 
 pub show-many-spec : {M : Type 1} → statement M
 show-many-spec =
@@ -111,6 +114,7 @@ show-many-spec =
     Inv-loop
     μ-loop
     returns
+    returns-2
     slice-aggregate-put
     put-requires
     slice-aggregate-put-2
@@ -139,4 +143,4 @@ show-many-spec =
     slice-aggregate-show-part-4
     add-show-part
     show-part-requires-4
-    returns-2)
+    returns-3)

@@ -13,39 +13,40 @@ use Rattle.job.specs.declared.Job.{Job}
 use Rattle.job.specs.Job.{noJob, jobSize}
 use Rattle.table.specs.Table.{jobsBytes, offsetOf}
 use Rattle.table.specs.OffsetLaws.{first-offset, offset-within}
-use Rattle.table_writer.specs.WriteLaws.{jobsIn, rows-length, row-of, row-ends, row-written}
+use Rattle.table_writer.specs.Write.{JobColumns, columnsOf, rows}
+use Rattle.table_writer.specs.WriteLaws.{rows-length, row-of, row-ends, row-written}
 use Rattle.table_writer.proofs.put_jobs.Statement.{statement}
 use Rattle.table_writer.proofs.put_jobs.Tie as tie
 
 abbrev Inv-loop : tie.InvT-loop
-Inv-loop needs adds deletes seconds out₀ at₀ i₀ out at i =
-    ((i ≤ length needs) × (at ≡ offsetOf (jobsIn needs adds deletes seconds) i) × (length out ≡ length out₀))
-    × (out ≡ sets out₀ FACTS-SIZE (jobsBytes (take i (jobsIn needs adds deletes seconds))))
+Inv-loop commands needs absent adds deletes seconds out₀ at₀ i₀ out at i =
+    let js = rows (columnsOf commands needs absent adds deletes seconds) in
+    ((i ≤ length commands) × (at ≡ offsetOf js i) × (length out ≡ length out₀)) × (out ≡ sets out₀ FACTS-SIZE (jobsBytes (take i js)))
 
 abbrev μ-loop : tie.MeasureT-loop
-μ-loop needs adds deletes seconds out₀ at₀ i₀ out at i = length needs - i
+μ-loop commands needs absent adds deletes seconds out₀ at₀ i₀ out at i = length commands - i
 
 -- ---- the places that several answers look back at
 
 abbrev start-of : tie.At-loop Inv-loop μ-loop → tie.Start Inv-loop μ-loop
-start-of c = c .before .before .before .before .before .before
+start-of c = c .before .before .before .before .before .before .before .before
 
 -- a row is at hand
 abbrev turn-of : tie.After-row-at Inv-loop μ-loop → tie.In-loop Inv-loop μ-loop
 turn-of c = c .before .before
 
+abbrev columns : tie.Start Inv-loop μ-loop → JobColumns
+columns c =
+    columnsOf (c .args .commands .now) (c .args .needs .now) (c .args .absent .now) (c .args .adds .now) (c .args .deletes .now) (c .args .seconds .now)
+
 abbrev jobs : tie.Start Inv-loop μ-loop → List Job
-jobs c = jobsIn (c .args .needs .now) (c .args .adds .now) (c .args .deletes .now) (c .args .seconds .now)
+jobs c = rows (columns c)
 
 is-row : (c : tie.After-row-at Inv-loop μ-loop) → c .row-at .result ≡ getD (jobs (start-of (turn-of c .before))) (turn-of c .before .loop .i) noJob
-is-row c =
-    let a = start-of (turn-of c .before) .args in
-    c .row-at .ensures ∙ row-of (a .needs .now) (a .adds .now) (a .deletes .now) (a .seconds .now) (turn-of c .before .loop .i) (turn-of c .loop-test .taken)
+is-row c = c .row-at .ensures ∙ row-of (columns (start-of (turn-of c .before))) (turn-of c .before .loop .i) (turn-of c .loop-test .taken)
 
 inside : (c : tie.In-loop Inv-loop μ-loop) → c .before .loop .i < length (jobs (start-of (c .before)))
-inside c =
-    let a = start-of (c .before) .args in
-    omega (arith, c .loop-test .taken, rows-length (a .needs .now) (a .adds .now) (a .deletes .now) (a .seconds .now))
+inside c = omega (arith, c .loop-test .taken, rows-length (columns (start-of (c .before))))
 
 next : (c : tie.After-row-at Inv-loop μ-loop)
     → turn-of c .before .loop .at + jobSize (c .row-at .result) ≡ offsetOf (jobs (start-of (turn-of c .before))) (turn-of c .before .loop .i + 1)
@@ -90,9 +91,8 @@ same-length c = search needs
 returns : tie.Need-returns Inv-loop μ-loop
 returns c =
     let l = c .before .loop in
-    let a = start-of (c .before) .args in
-    let js = jobs (start-of (c .before)) in
-    let all : take (l .i) js ≡ js = take-all (l .i) js (omega (arith, c .loop-test .left, rows-length (a .needs .now) (a .adds .now) (a .deletes .now) (a .seconds .now))) in
+    let s = start-of (c .before) in
+    let all : take (l .i) (jobs s) ≡ jobs s = take-all (l .i) (jobs s) (omega (arith, c .loop-test .left, rows-length (columns s))) in
     l .inv .1 ∙ rw all
 
 pub put-jobs-spec : {M : Type 1} → statement M

@@ -15,23 +15,24 @@ use Rattle.job.specs.Validation.{validatedOf}
 use Rattle.table.specs.Table.{Table, maxJobs, offsetOf}
 use Rattle.table.specs.Sound.{validatedTable}
 use Rattle.table.specs.OffsetLaws.{first-offset, last-offset, offset-small}
-use Rattle.table_writer.specs.Write.{tableOf, placed, tableValidatedOf}
-use Rattle.table_writer.specs.WriteLaws.{jobsIn, rows-length, row-of, row-ends, remaining, turn-full, turn-bad, turn-more, turn-goal-out, turn-goal-in, validated-no-facts, validated-facts, facts-small}
+use Rattle.table_writer.specs.Write.{JobColumns, columnsOf, rows, tableOf, placed, tableValidatedOf}
+use Rattle.table_writer.specs.WriteLaws.{rows-length, row-of, row-ends, remaining, turn-full, turn-bad, turn-more, turn-goal-out, turn-goal-in, validated-no-facts, validated-facts, facts-small}
 use Rattle.table_writer.proofs.validate_table.Statement.{statement}
 use Rattle.table_writer.proofs.validate_table.Tie as tie
 
 abbrev Inv-loop : tie.InvT-loop
-Inv-loop facts needs adds deletes seconds goal limit at₀ i₀ at i =
-    ((i ≤ length needs) × (i ≤ maxJobs) × (at ≡ offsetOf (jobsIn needs adds deletes seconds) i))
-    × (remaining facts goal (jobsIn needs adds deletes seconds) i at ≡ validatedTable (tableOf needs adds deletes seconds facts goal))
+Inv-loop facts commands needs absent adds deletes seconds goal limit at₀ i₀ at i =
+    let columns = columnsOf commands needs absent adds deletes seconds in
+    ((i ≤ length commands) × (i ≤ maxJobs) × (at ≡ offsetOf (rows columns) i))
+    × (remaining facts goal (rows columns) i at ≡ validatedTable (tableOf columns facts goal))
 
 abbrev μ-loop : tie.MeasureT-loop
-μ-loop facts needs adds deletes seconds goal limit at₀ i₀ at i = length needs - i
+μ-loop facts commands needs absent adds deletes seconds goal limit at₀ i₀ at i = length commands - i
 
 -- ---- the places that several answers look back at
 
 abbrev start-of : tie.After-facts-in-range Inv-loop μ-loop → tie.Start Inv-loop μ-loop
-start-of c = c .before .before .before .before .before
+start-of c = c .before .before .before .before .before .before .before
 
 abbrev entry-of : tie.At-loop Inv-loop μ-loop → tie.Start Inv-loop μ-loop
 entry-of c = start-of (c .before .before)
@@ -40,21 +41,21 @@ entry-of c = start-of (c .before .before)
 abbrev turn-of : tie.After-row-at Inv-loop μ-loop → tie.In-loop Inv-loop μ-loop
 turn-of c = c .before .before
 
+abbrev columns : tie.Start Inv-loop μ-loop → JobColumns
+columns c =
+    columnsOf (c .args .commands .now) (c .args .needs .now) (c .args .absent .now) (c .args .adds .now) (c .args .deletes .now) (c .args .seconds .now)
+
 abbrev jobs : tie.Start Inv-loop μ-loop → List Job
-jobs c = jobsIn (c .args .needs .now) (c .args .adds .now) (c .args .deletes .now) (c .args .seconds .now)
+jobs c = rows (columns c)
 
 abbrev table : tie.Start Inv-loop μ-loop → Table
-table c = tableOf (c .args .needs .now) (c .args .adds .now) (c .args .deletes .now) (c .args .seconds .now) (c .args .facts) (c .args .goal)
+table c = tableOf (columns c) (c .args .facts) (c .args .goal)
 
 inside : (c : tie.In-loop Inv-loop μ-loop) → c .before .loop .i < length (jobs (entry-of (c .before)))
-inside c =
-    let a = entry-of (c .before) .args in
-    omega (arith, c .loop-test .taken, rows-length (a .needs .now) (a .adds .now) (a .deletes .now) (a .seconds .now))
+inside c = omega (arith, c .loop-test .taken, rows-length (columns (entry-of (c .before))))
 
 is-row : (c : tie.After-row-at Inv-loop μ-loop) → c .row-at .result ≡ getD (jobs (entry-of (turn-of c .before))) (turn-of c .before .loop .i) noJob
-is-row c =
-    let a = entry-of (turn-of c .before) .args in
-    c .row-at .ensures ∙ row-of (a .needs .now) (a .adds .now) (a .deletes .now) (a .seconds .now) (turn-of c .before .loop .i) (turn-of c .loop-test .taken)
+is-row c = c .row-at .ensures ∙ row-of (columns (entry-of (turn-of c .before))) (turn-of c .before .loop .i) (turn-of c .loop-test .taken)
 
 -- where the row after it stands
 next : (c : tie.After-size-of Inv-loop μ-loop)
@@ -67,9 +68,7 @@ next c =
 
 -- every row was passed
 all-passed : (c : tie.After-loop Inv-loop μ-loop) → c .before .loop .i ≡ length (jobs (entry-of (c .before)))
-all-passed c =
-    let a = entry-of (c .before) .args in
-    omega (arith, c .loop-test .left, c .before .loop .inv .0 .0, rows-length (a .needs .now) (a .adds .now) (a .deletes .now) (a .seconds .now))
+all-passed c = omega (arith, c .loop-test .left, c .before .loop .inv .0 .0, rows-length (columns (entry-of (c .before))))
 
 -- ---- the needs
 
@@ -100,7 +99,8 @@ returns-2 c =
     let t = c .before .before in
     let l = t .before .loop in
     let a = entry-of (t .before) .args in
-    ap tableValidatedOf (c .refused2 .ensures) ∙ ap placed (turn-full (a .facts) (a .goal) (jobs (entry-of (t .before))) (l .i) (l .at) (inside t) (omega (arith, c .before .if2 .taken, l .inv .0 .1)) ∙ l .inv .1)
+    let full : l .i ≡ maxJobs = omega (arith, c .before .if2 .taken, l .inv .0 .1) in
+    ap tableValidatedOf (c .refused2 .ensures) ∙ ap placed (turn-full (a .facts) (a .goal) (jobs (entry-of (t .before))) (l .i) (l .at) (inside t) full ∙ l .inv .1)
 
 row-at-requires : tie.Need-row-at-requires Inv-loop μ-loop
 row-at-requires c κs = (c .before .loop-test .taken, entry-of (c .before .before) .pre)
@@ -118,7 +118,8 @@ returns-3 c =
     let l = t .before .loop in
     let a = entry-of (t .before) .args in
     let bad = ap (validatedOf _) (sym (c .before .x .given .1)) ∙ v .validate-job .ensures in
-    ap placed (turn-bad (a .facts) (a .goal) (jobs (entry-of (t .before))) (l .i) (l .at) (inside t) (omega (arith, v .before .before .if2 .left, l .inv .0 .1)) _ (is-row (v .before)) _ _ bad ∙ l .inv .1)
+    let few : l .i < maxJobs = omega (arith, v .before .before .if2 .left, l .inv .0 .1) in
+    ap placed (turn-bad (a .facts) (a .goal) (jobs (entry-of (t .before))) (l .i) (l .at) (inside t) few _ (is-row (v .before)) _ _ bad ∙ l .inv .1)
 
 enum-told : tie.Need-enum-told Inv-loop μ-loop
 enum-told c = search needs
