@@ -1,12 +1,15 @@
--- What an expansion answers and leaves in the lent list tables, by the definition of the plan: document 01, "Expansion".
+-- What an expansion answers and leaves in the lent list tables, by the definition of the plan: document 01, "Expansion"; document 02, W10.
 -- Definitions only.
 use mathlib.Core.Path.{_≡_}
-use mathlib.Core.Bool.{Bool, false}
-use mathlib.Core.List.{List, _++_, map}
+use mathlib.Core.Bool.{Bool, true, false, not}
+use mathlib.Core.List.{List, [], _++_, map}
 use Prim.Native.Nat.{ℕ, min}
+use lib.Dec.{T}
 use lib.ListN.{length, drop}
+use Rattle.base.specs.Bools.{if_then_else_}
 use Rattle.refusal.specs.Checked.{Checked, accepted, refused, andThen}
-use Rattle.conditions.specs.Condition.{Condition, satisfied, actionAt}
+use Rattle.conditions.specs.declared.Condition.{Condition}
+use Rattle.conditions.specs.Condition.{satisfied, actionAt}
 use Rattle.planning.specs.Expansion.{Entry, Outcome, exhausted, covered, full, entries}
 use Rattle.planning.specs.Columns.{entriesOf}
 use Rattle.planning.specs.Facts.{Actions, factPlan}
@@ -15,60 +18,69 @@ use Rattle.expander.specs.declared.Expanded.the-variants as X
 use Rattle.expander.specs.declared.Until.{Until}
 use Rattle.expander.specs.declared.Until.the-variants as U
 
--- ---- the actions, in three rows of masks
+-- ---- the actions, in four rows of masks
 
--- how many, by the lengths of the rows: the shortest counts, and "0 to 128 JOBs numbered from 0"
+-- how many, by the lengths of the rows: the shortest counts, and "0 to 128 JOBs numbered from 0"; past the row of absent facts there are none
 unfoldable pub countOf : ℕ → ℕ → ℕ → ℕ
 countOf needs adds deletes = min (min (min needs adds) deletes) 128
 
-abbrev pub actionsOf : List ℕ → List ℕ → List ℕ → Actions
-actionsOf needs adds deletes =
-    record { count = countOf (length needs) (length adds) (length deletes); action = actionAt needs adds deletes }
+abbrev pub actionsOf : List ℕ → List ℕ → List ℕ → List ℕ → Actions
+actionsOf needs absent adds deletes =
+    record { count = countOf (length needs) (length adds) (length deletes); action = actionAt needs absent adds deletes }
 
--- ---- the lent list tables, as the four columns of a list of entries
+-- ---- the lent list tables, as the five columns of a list of entries
+-- `paired` says that some action needs a fact absent: "once the table has a 0x21 .. its list takes a further lent table for the second masks".
 
 pub record Columns : Type 0 where
   pub conditions : List ℕ
+  pub absences : List ℕ
   pub actions : List ℕ
   pub parents : List ℕ
   pub depths : List ℕ
 
-abbrev pub columns : List ℕ → List ℕ → List ℕ → List ℕ → Columns
-columns conditions actions parents depths = record { conditions = conditions; actions = actions; parents = parents; depths = depths }
+abbrev pub columns : List ℕ → List ℕ → List ℕ → List ℕ → List ℕ → Columns
+columns conditions absences actions parents depths =
+    record { conditions = conditions; absences = absences; actions = actions; parents = parents; depths = depths }
 
--- "Capacity is the shortest of the four lent list tables, and at most 4,096."
-unfoldable pub capacityOf : ℕ → ℕ → ℕ → ℕ → ℕ
-capacityOf conditions actions parents depths = min (min (min conditions actions) (min parents depths)) 4096
+-- "Capacity is the shortest of the four lent list tables, and at most 4,096"; of a paired list it covers the further table, and is "at most 2,978"
+unfoldable pub capacityOf : Bool → ℕ → ℕ → ℕ → ℕ → ℕ → ℕ
+capacityOf false conditions absences actions parents depths = min (min (min conditions actions) (min parents depths)) 4096
+capacityOf true conditions absences actions parents depths = min (min (min (min conditions actions) (min parents depths)) absences) 2978
 
 -- the capacity of the tables
-abbrev pub room : Columns → ℕ
-room t = capacityOf (length (t .conditions)) (length (t .actions)) (length (t .parents)) (length (t .depths))
+abbrev pub room : Columns → Bool → ℕ
+room t paired = capacityOf paired (length (t .conditions)) (length (t .absences)) (length (t .actions)) (length (t .parents)) (length (t .depths))
 
 -- the first n entries that the tables hold
 abbrev pub held : Columns → ℕ → List (Entry Condition)
-held t n = entriesOf (t .conditions) (t .actions) (t .parents) (t .depths) n
+held t n = entriesOf (t .conditions) (t .absences) (t .actions) (t .parents) (t .depths) n
 
 -- a column with the list written to its front: past the list it is as it was
 abbrev pub over : (Entry Condition → ℕ) → List (Entry Condition) → List ℕ → List ℕ
 over field l xs = map field l ++ drop (length l) xs
 
--- the tables with the list written to their fronts: "the list tables hold the entries stored, all else untouched"
-abbrev pub written : List (Entry Condition) → Columns → Columns
-written l t =
-    columns (over (λ x. x .condition) l (t .conditions)) (over (λ x. x .action) l (t .actions)) (over (λ x. x .parent) l (t .parents))
-    (over (λ x. x .depth) l (t .depths))
+-- the tables with the list written to their fronts: "the list tables hold the entries stored, all else untouched"; the further one only of a
+-- paired list
+abbrev pub written : Bool → List (Entry Condition) → Columns → Columns
+written paired l t =
+    columns (over (λ x. x .condition .present) l (t .conditions)) (if paired then over (λ x. x .condition .absent) l (t .absences) else t .absences)
+    (over (λ x. x .action) l (t .actions)) (over (λ x. x .parent) l (t .parents)) (over (λ x. x .depth) l (t .depths))
+
+-- where the list is not paired, no second masks are lent
+abbrev pub Unlent : Bool → List ℕ → Type 0
+Unlent paired absences = T (not paired) → absences ≡ []
 
 -- ---- what ends the list
 
--- "The list stops at the first entry, 0 included, whose condition is part of the start"; or, document 02, W2, it "takes no start and stops only
+-- "The list stops at the first entry, 0 included, whose condition is part of the start", which is that the start meets it; or, document 02, W2, it "takes no start and stops only
 -- when all entries are expanded or number 10 arises"
 abbrev pub endedBy : Until → Condition → Bool
 endedBy (U.Covers start) = λ c. satisfied c start
 endedBy U.Never = λ c. false
 
 -- the plan of the actions for a goal, as far as the tables have room
-abbrev pub planIn : Columns → Actions → Condition → Until → Outcome Condition
-planIn t A goal until = factPlan A goal (room t) (endedBy until)
+abbrev pub planIn : Bool → Columns → Actions → Condition → Until → Outcome Condition
+planIn paired t A goal until = factPlan A goal (room t paired) (endedBy until)
 
 -- ---- the answer
 
@@ -94,7 +106,7 @@ outcomeOf (X.Covered n) t = covered (held t n)
 outcomeOf (X.Full n) t = full (held t n)
 
 -- The answer is the plan's, by its number and by its list, and the tables hold the entries stored.
-pub record Expands (A : Actions) (goal : Condition) (until : Until) (before after : Columns) (r : Expanded) : Type 0 where
-  pub answer : expandedOf until r ≡ andThen (listedBy until (planIn before A goal until)) (λ l. accepted (length l))
-  pub outcome : outcomeOf r after ≡ planIn before A goal until
-  pub tables : after ≡ written (entries (planIn before A goal until)) before
+pub record Expands (paired : Bool) (A : Actions) (goal : Condition) (until : Until) (before after : Columns) (r : Expanded) : Type 0 where
+  pub answer : expandedOf until r ≡ andThen (listedBy until (planIn paired before A goal until)) (λ l. accepted (length l))
+  pub outcome : outcomeOf r after ≡ planIn paired before A goal until
+  pub tables : after ≡ written paired (entries (planIn paired before A goal until)) before

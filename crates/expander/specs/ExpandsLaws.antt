@@ -1,18 +1,18 @@
 -- What a caller of the expansion learns: the tables hold the list of the plan, and the list has the properties that the theory of plans shows.
 -- Assumes nothing.
 use mathlib.Core.Path.{_≡_, refl, sym, ap, _∙_, subst}
-use mathlib.Core.Bool.{not}
+use mathlib.Core.Bool.{Bool, true, false, not}
 use mathlib.Core.Logic.{_↔_}
 use mathlib.Core.List.{List, map}
 use Prim.Native.Nat.{ℕ, suc, _≤_, _<_}
 use native.Mathlib.Omega.{arith}
 use lib.Dec.{T, T-not}
 use lib.ListN.{length, getD, drop, length-append, length-map, List·getD-append, List·getD-map}
-use lib.Seq.{ext-getD}
 use Rattle.base.specs.Lists.{getD-inside}
 use Rattle.refusal.specs.Checked.{accepted, andThen}
 use Rattle.conditions.specs.declared.Found.the-variants.{Nowhere}
-use Rattle.conditions.specs.Condition.{Condition, conditionWithin}
+use Rattle.conditions.specs.declared.Condition.{Condition}
+use Rattle.conditions.specs.Condition.{conditionAt, conditionWithin}
 use Rattle.conditions.specs.Search.{newestWeaker}
 use Rattle.conditions.specs.SearchLaws.{nowhere-none, none-nowhere}
 use Rattle.planning.specs.Domain.{Domain}
@@ -26,13 +26,13 @@ use Rattle.planning.specs.Demand.{FirstIn}
 use Rattle.planning.specs.DemandLaws.{planned-fits, planned-good, planned-action, planned-depth, covered-nonempty, exhausted-nonempty}
 use Rattle.planning.specs.Columns.{entryAt}
 use Rattle.planning.specs.ColumnLaws.{length-prefix, getD-prefix}
-use Rattle.planning.specs.Facts.{Actions, unitDomain, WithinFacts}
+use Rattle.planning.specs.Facts.{Actions, unitDomain, Separate, WithinFacts}
 use Rattle.planning.specs.FactLaws.{fact-plannable, fact-start-first, fact-no-way, condition-within}
 use Rattle.expander.specs.declared.Expanded.{Expanded}
 use Rattle.expander.specs.declared.Expanded.the-variants as X
 use Rattle.expander.specs.declared.Until.{Until}
 use Rattle.expander.specs.declared.Until.the-variants as U
-use Rattle.expander.specs.Expands.{countOf, Columns, capacityOf, room, held, over, written, endedBy, planIn, expandedOf, listedBy, outcomeOf, Expands}
+use Rattle.expander.specs.Expands.{countOf, Columns, capacityOf, room, held, over, endedBy, planIn, expandedOf, listedBy, outcomeOf, Expands}
 
 -- ---- the number of actions, and the capacity
 
@@ -58,26 +58,42 @@ pub count-rows : (n : ℕ) → n ≤ 128 → countOf n n n ≡ n
 unfolding countOf
 count-rows n h = omega arith
 
-module _ (conditions actions parents depths : ℕ) where
-  pub capacity-conditions : capacityOf conditions actions parents depths ≤ conditions
+module _ (conditions absences actions parents depths : ℕ) where
+  pub capacity-conditions : (paired : Bool) → capacityOf paired conditions absences actions parents depths ≤ conditions
   unfolding capacityOf
-  capacity-conditions = omega arith
+  capacity-conditions true = omega arith
+  capacity-conditions false = omega arith
 
-  pub capacity-actions : capacityOf conditions actions parents depths ≤ actions
+  -- the second masks of a paired list
+  pub capacity-absences : (paired : Bool) → T paired → capacityOf paired conditions absences actions parents depths ≤ absences
   unfolding capacityOf
-  capacity-actions = omega arith
+  capacity-absences true t = omega arith
+  capacity-absences false t = absurd t
 
-  pub capacity-parents : capacityOf conditions actions parents depths ≤ parents
+  pub capacity-actions : (paired : Bool) → capacityOf paired conditions absences actions parents depths ≤ actions
   unfolding capacityOf
-  capacity-parents = omega arith
+  capacity-actions true = omega arith
+  capacity-actions false = omega arith
 
-  pub capacity-depths : capacityOf conditions actions parents depths ≤ depths
+  pub capacity-parents : (paired : Bool) → capacityOf paired conditions absences actions parents depths ≤ parents
   unfolding capacityOf
-  capacity-depths = omega arith
+  capacity-parents true = omega arith
+  capacity-parents false = omega arith
 
-  pub capacity-most : capacityOf conditions actions parents depths ≤ 4096
+  pub capacity-depths : (paired : Bool) → capacityOf paired conditions absences actions parents depths ≤ depths
   unfolding capacityOf
-  capacity-most = omega arith
+  capacity-depths true = omega arith
+  capacity-depths false = omega arith
+
+  pub capacity-most : (paired : Bool) → capacityOf paired conditions absences actions parents depths ≤ 4096
+  unfolding capacityOf
+  capacity-most true = omega arith
+  capacity-most false = omega arith
+
+  pub capacity-pairs : (paired : Bool) → T paired → capacityOf paired conditions absences actions parents depths ≤ 2978
+  unfolding capacityOf
+  capacity-pairs true t = omega arith
+  capacity-pairs false t = absurd t
 
 -- ---- the answer
 
@@ -100,24 +116,24 @@ answerOf (full l) = X.Full (length l)
 
 -- entry i, as the tables hold it
 abbrev pub entryOf : Columns → ℕ → Entry Condition
-entryOf t i = entryAt (t .conditions) (t .actions) (t .parents) (t .depths) i
+entryOf t i = entryAt (t .conditions) (t .absences) (t .actions) (t .parents) (t .depths) i
 
 pub held-length : (t : Columns) (n : ℕ) → length (held t n) ≡ n
 held-length t n = length-prefix (entryOf t) n
 
 -- Document 02, W6: the search answers none "exactly where it did before", where no listed condition is a part.
 module _ (A : Actions) (goal : Condition) (t : Columns) (n : ℕ) (c : Condition) where
-  condition-held : (i : ℕ) → i < n → entryIn (unitDomain A goal) (held t n) i .condition ≡ getD (t .conditions) i 0
+  condition-held : (i : ℕ) → i < n → entryIn (unitDomain A goal) (held t n) i .condition ≡ conditionAt (t .conditions) (t .absences) i
   condition-held i h = ap (λ x. x .condition) (getD-prefix (entryOf t) n i _ h)
 
-  pub nowhere-unlisted : (newestWeaker (t .conditions) n c ≡ Nowhere) ↔ T (not (listed (unitDomain A goal) (held t n) c))
+  pub nowhere-unlisted : (newestWeaker (t .conditions) (t .absences) n c ≡ Nowhere) ↔ T (not (listed (unitDomain A goal) (held t n) c))
   nowhere-unlisted =
       let D = unitDomain A goal in
       let few = held-length t n in (
         λ e. none-listed D (held t n) c (λ i h p.
             let k : i < n = omega (arith, few) in
-            nowhere-none (t .conditions) c n e i k (rw (condition-held i k) at p)),
-        λ u. none-nowhere (t .conditions) c n (λ i h p.
+            nowhere-none (t .conditions) (t .absences) c n e i k (rw (condition-held i k) at p)),
+        λ u. none-nowhere (t .conditions) (t .absences) c n (λ i h p.
             T-not (listed D (held t n) c) u (some-listed D (held t n) c i (omega (arith, few)) (rw (condition-held i h) p))),
       )
 
@@ -136,16 +152,17 @@ outcome-answer (X.Exhausted n) t = ap X.Exhausted (held-length t n)
 outcome-answer (X.Covered n) t = ap X.Covered (held-length t n)
 outcome-answer (X.Full n) t = ap X.Full (held-length t n)
 
-module _ {A : Actions} {goal : Condition} {until : Until} {before after : Columns} {r : Expanded} (E : Expands A goal until before after r) where
+module _ {paired : Bool} {A : Actions} {goal : Condition} {until : Until} {before after : Columns} {r : Expanded}
+    (E : Expands paired A goal until before after r) where
   abbrev list : List (Entry Condition)
-  list = entries (planIn before A goal until)
+  list = entries (planIn paired before A goal until)
 
   abbrev D : Domain ℕ Condition ℕ
   D = unitDomain A goal
 
   -- ---- the answer and the entries
 
-  pub answer-is : r ≡ answerOf (planIn before A goal until)
+  pub answer-is : r ≡ answerOf (planIn paired before A goal until)
   answer-is = sym (outcome-answer r after) ∙ ap answerOf (E .outcome)
 
   -- the entries read back from the tables are the list of the plan
@@ -160,20 +177,24 @@ module _ {A : Actions} {goal : Condition} {until : Until} {before after : Column
 
   -- ---- how many there are
 
-  pub stored-fits : stored r ≤ room before
-  stored-fits = omega (arith, planned-fits (fact-plannable A goal) (room before) (endedBy until), list-length)
+  pub stored-fits : stored r ≤ room before paired
+  stored-fits = omega (arith, planned-fits (fact-plannable A goal) (room before paired) (endedBy until), list-length)
 
   pub stored-small : stored r ≤ 4096
   stored-small =
       let t = before in
-      omega (arith, stored-fits, capacity-most (length (t .conditions)) (length (t .actions)) (length (t .parents)) (length (t .depths)))
+      omega (
+        arith,
+        stored-fits,
+        capacity-most (length (t .conditions)) (length (t .absences)) (length (t .actions)) (length (t .parents)) (length (t .depths)) paired,
+      )
 
   -- ---- what they are: the goal first, and each later entry comes from an earlier one by one of the actions
 
-  pub stored-goal : 0 < stored r → getD (after .conditions) 0 0 ≡ goal
+  pub stored-goal : 0 < stored r → conditionAt (after .conditions) (after .absences) 0 ≡ goal
   stored-goal h =
       ap (λ x. x .condition) (entry-held 0 h)
-      ∙ planned-good (fact-plannable A goal) (room before) (endedBy until) (omega (arith, list-length)) .goal-first
+      ∙ planned-good (fact-plannable A goal) (room before paired) (endedBy until) (omega (arith, list-length)) .goal-first
 
   module _ (i : ℕ) (h : i < stored r) where
     inside : i < length list
@@ -182,53 +203,55 @@ module _ {A : Actions} {goal : Condition} {until : Until} {before after : Column
     pub stored-depth : getD (after .depths) i 0 ≤ i
     stored-depth =
         let e = ap (λ x. x .depth) (entry-held i h) in
-        omega (arith, e, planned-depth (fact-plannable A goal) (room before) (endedBy until) i inside)
+        omega (arith, e, planned-depth (fact-plannable A goal) (room before paired) (endedBy until) i inside)
 
     -- the conditions are sets of the table's facts
-    pub stored-within : (f : ℕ) → WithinFacts f A goal → T (conditionWithin f (getD (after .conditions) i 0))
-    stored-within f W = rw (ap (λ x. x .condition) (entry-held i h)) (condition-within A goal (room before) (endedBy until) f W i inside)
+    pub stored-within : (f : ℕ) → WithinFacts f A goal → T (conditionWithin f (conditionAt (after .conditions) (after .absences) i))
+    stored-within f W =
+        subst (λ (c : Condition). T (conditionWithin f c)) (sym (ap (λ x. x .condition) (entry-held i h)))
+        (condition-within A goal (room before paired) (endedBy until) f W i inside)
 
     module _ (later : 0 < i) where
       pub stored-derived : Derived D (listing D list) i
-      stored-derived = planned-good (fact-plannable A goal) (room before) (endedBy until) (omega (arith, inside)) .derived i later inside
+      stored-derived = planned-good (fact-plannable A goal) (room before paired) (endedBy until) (omega (arith, inside)) .derived i later inside
 
       pub stored-action : getD (after .actions) i 0 < A .count
       stored-action =
-          rw (ap (λ x. x .action) (entry-held i h)) (planned-action (fact-plannable A goal) (room before) (endedBy until) i later inside)
+          rw (ap (λ x. x .action) (entry-held i h)) (planned-action (fact-plannable A goal) (room before paired) (endedBy until) i later inside)
 
       pub stored-parent : getD (after .parents) i 0 < i
       stored-parent = rw (ap (λ x. x .parent) (entry-held i h)) (stored-derived .parent-before)
 
 -- ---- what each answer says
 
-module _ {A : Actions} {goal : Condition} {start : ℕ} {before after : Columns} {n : ℕ} where
+module _ {paired : Bool} {A : Actions} {goal : Condition} {start : ℕ} {before after : Columns} {n : ℕ} where
   -- the last entry is the first one that the start meets
-  pub covered-first : Expands A goal (U.Covers start) before after (X.Covered n)
+  pub covered-first : Expands paired A goal (U.Covers start) before after (X.Covered n)
       → (i : ℕ) × (n ≡ suc i) × FirstIn (unitDomain A goal) (held after n) start i
   covered-first E =
-      let f = fact-start-first A goal (room before) start (held after n) (sym (E .outcome)) in
+      let f = fact-start-first A goal (room before paired) start (held after n) (sym (E .outcome)) in
       (f .0, omega (arith, f .1, held-length after n), f .2)
 
   -- "No way": no sequence of actions leads from the start to the goal
-  pub exhausted-no-way : Expands A goal (U.Covers start) before after (X.Exhausted n) → (w : List ℕ) → Reaches (unitDomain A goal) start w → ⊥
-  exhausted-no-way E = fact-no-way A goal (room before) start (held after n) (sym (E .outcome))
+  pub exhausted-no-way : Separate A → Expands paired A goal (U.Covers start) before after (X.Exhausted n) → (w : List ℕ) → Reaches (unitDomain A goal) start w → ⊥
+  exhausted-no-way separate E = fact-no-way A goal (room before paired) start separate (held after n) (sym (E .outcome))
 
-module _ {A : Actions} {goal : Condition} {until : Until} {before after : Columns} {n : ℕ} where
+module _ {paired : Bool} {A : Actions} {goal : Condition} {until : Until} {before after : Columns} {n : ℕ} where
   -- "List full": there are as many entries as the capacity
-  pub full-capacity : Expands A goal until before after (X.Full n) → n ≡ room before
+  pub full-capacity : Expands paired A goal until before after (X.Full n) → n ≡ room before paired
   full-capacity E =
       let P = fact-plannable A goal in
-      let known : Sound (unitDomain A goal) (room before) (endedBy until) (entryIn (unitDomain A goal) (held after n)) (full (held after n)) =
-      subst (λ (o : Outcome Condition). Sound (unitDomain A goal) (room before) (endedBy until) (entryIn (unitDomain A goal) (entries o)) o) (sym (E .outcome))
-      (expand-sound (unitDomain A goal) (A .count) (room before) (endedBy until) (P .unit-cost) (P .weaker-refl) (P .below-count)) in
+      let known : Sound (unitDomain A goal) (room before paired) (endedBy until) (entryIn (unitDomain A goal) (held after n)) (full (held after n)) =
+      subst (λ (o : Outcome Condition). Sound (unitDomain A goal) (room before paired) (endedBy until) (entryIn (unitDomain A goal) (entries o)) o) (sym (E .outcome))
+      (expand-sound (unitDomain A goal) (A .count) (room before paired) (endedBy until) (P .unit-cost) (P .weaker-refl) (P .below-count)) in
       omega (arith, known .size, held-length after n)
 
   -- a list that ended otherwise has an entry
-  pub exhausted-some : Expands A goal until before after (X.Exhausted n) → 1 ≤ n
-  exhausted-some E = omega (arith, exhausted-nonempty (fact-plannable A goal) (room before) (endedBy until) (held after n) (sym (E .outcome)), held-length after n)
+  pub exhausted-some : Expands paired A goal until before after (X.Exhausted n) → 1 ≤ n
+  exhausted-some E = omega (arith, exhausted-nonempty (fact-plannable A goal) (room before paired) (endedBy until) (held after n) (sym (E .outcome)), held-length after n)
 
-  pub covered-some : Expands A goal until before after (X.Covered n) → 1 ≤ n
-  covered-some E = omega (arith, covered-nonempty (fact-plannable A goal) (room before) (endedBy until) (held after n) (sym (E .outcome)), held-length after n)
+  pub covered-some : Expands paired A goal until before after (X.Covered n) → 1 ≤ n
+  covered-some E = omega (arith, covered-nonempty (fact-plannable A goal) (room before paired) (endedBy until) (held after n) (sym (E .outcome)), held-length after n)
 
 -- ---- a list that is written to the fronts of the tables
 
@@ -240,21 +263,3 @@ module _ (l : List (Entry Condition)) where
   over-at field xs i d h =
       let inside : i < length (map field l) = omega (arith, length-map l field) in
       List·getD-append (map field l) (drop (length l) xs) 0 i inside ∙ getD-inside (map field l) i 0 (field d) inside ∙ List·getD-map field l i d
-
-  -- is read back from them
-  pub written-held : (t : Columns) → held (written l t) (length l) ≡ l
-  written-held t =
-      ext-getD none (held (written l t) (length l)) l (held-length (written l t) (length l))
-      (λ i h. let k : i < length l = omega (arith, held-length (written l t) (length l)) in getD-prefix (entryOf (written l t)) (length l) i none k ∙ entry-back i k)
-    where
-      none : Entry Condition
-      none = record { condition = 0; action = 0; parent = 0; depth = 0 }
-
-      entry-back : (i : ℕ) → i < length l → entryOf (written l t) i ≡ getD l i none
-      entry-back i h =
-          rw (
-            over-at (λ x. x .condition) (t .conditions) i none h,
-            over-at (λ x. x .action) (t .actions) i none h,
-            over-at (λ x. x .parent) (t .parents) i none h,
-            over-at (λ x. x .depth) (t .depths) i none h,
-          )

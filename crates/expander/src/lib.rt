@@ -1,9 +1,13 @@
-// The expansion of a goal into the list of conditions from which actions lead to it (document 01, "Expansion"), over rows of the actions'
-// masks and four lent list tables. An action is document 01's job.
+// The expansion of a goal into the list of conditions from which actions lead to it (document 01, "Expansion"; document 02, W10), over rows of the
+// actions' masks and five lent list tables. An action is document 01's job.
+use conditions::Condition;
 use conditions::Found;
 ghost use mathlib.Core.Path.{_≡_};
 ghost use Prim.Native.Nat.{min};
-ghost use Rattle.expander.specs.Expands.{countOf, actionsOf, columns, capacityOf, endedBy, Expands};
+ghost use lib.Dec.{ltb};
+ghost use lib.ListN.{length};
+ghost use Rattle.conditions.specs.Condition.{plain};
+ghost use Rattle.expander.specs.Expands.{countOf, actionsOf, columns, capacityOf, endedBy, Unlent, Expands};
 
 // What ends the list, besides its capacity.
 pub enum Until {
@@ -28,6 +32,9 @@ pub const NO_ACTION: u8 = 255;
 
 const MAX_ENTRIES: usize = 4_096;
 
+// Where an action needs a fact absent.
+const MAX_PAIRS: usize = 2_978;
+
 const MAX_ACTIONS: usize = 128;
 
 fn lesser(a: usize, b: usize) -> usize
@@ -36,12 +43,22 @@ fn lesser(a: usize, b: usize) -> usize
     if a < b { a } else { b }
 }
 
-// How many entries fit the list tables, by their lengths.
-fn capacity_of(conditions: usize, actions: usize, parents: usize, depths: usize) -> usize
-    ensures { λ r. ⌜ r ≡ capacityOf conditions actions parents depths ⌝ }
+// How many entries fit the list tables, by their lengths. Where no action needs a fact absent, the second masks take no room.
+fn capacity_of(
+    absent: usize,
+    conditions: usize,
+    absences: usize,
+    actions: usize,
+    parents: usize,
+    depths: usize,
+) -> usize
+    ensures { λ r. ⌜ r ≡ capacityOf (ltb 0 absent) conditions absences actions parents depths ⌝ }
 {
     let shortest = lesser(lesser(conditions, actions), lesser(parents, depths));
-    lesser(shortest, MAX_ENTRIES)
+    if absent == 0 {
+        return lesser(shortest, MAX_ENTRIES);
+    }
+    lesser(lesser(shortest, absences), MAX_PAIRS)
 }
 
 // How many actions the rows hold, by their lengths.
@@ -52,7 +69,7 @@ fn count_of(needs: usize, adds: usize, deletes: usize) -> usize
 }
 
 // Does a listed condition end the list?
-fn ends_list(until: Until, condition: u64) -> bool
+fn ends_list(until: Until, condition: Condition) -> bool
     ensures { λ r. ⌜ r ≡ endedBy until condition ⌝ }
 {
     match until {
@@ -62,31 +79,48 @@ fn ends_list(until: Until, condition: u64) -> bool
 }
 
 // Lists the conditions from which the actions lead to the goal, nearest first, up to the first that ends the list.
-// Action a has its masks at a of `needs`, `adds` and `deletes`; entry i stands at i of `conditions`, `actions`, `parents` and `depths`.
+// Action a has its masks at a of `needs`, `absent`, `adds` and `deletes`; entry i stands at i of `conditions`, `absences`, `actions`, `parents` and
+// `depths`. Where `absent` is empty no action needs a fact absent, and no second masks are lent.
 pub fn expand(
     needs: &[u64],
+    absent: &[u64],
     adds: &[u64],
     deletes: &[u64],
     goal: u64,
     until: Until,
     conditions: &mut [u64],
+    absences: &mut [u64],
     actions: &mut [u8],
     parents: &mut [u16],
     depths: &mut [u16],
 ) -> Expanded
-    ensures { λ r. ⌜ Expands (actionsOf (now (needs .entry)) (now (adds .entry)) (now (deletes .entry))) goal until
-        (columns (now (conditions .entry)) (now (actions .entry)) (now (parents .entry)) (now (depths .entry)))
-        (columns (now (conditions .exit)) (now (actions .exit)) (now (parents .exit)) (now (depths .exit))) r ⌝ }
+    requires { ⌜ Unlent (ltb 0 (length (now absent))) (now absences) ⌝ }
+    ensures { λ r. ⌜ Expands (ltb 0 (length (now (absent .entry))))
+        (actionsOf (now (needs .entry)) (now (absent .entry)) (now (adds .entry)) (now (deletes .entry))) (plain goal) until
+        (columns (now (conditions .entry)) (now (absences .entry)) (now (actions .entry)) (now (parents .entry)) (now (depths .entry)))
+        (columns (now (conditions .exit)) (now (absences .exit)) (now (actions .exit)) (now (parents .exit)) (now (depths .exit))) r ⌝ }
 {
-    let capacity = capacity_of(conditions.len(), actions.len(), parents.len(), depths.len());
+    let capacity = capacity_of(
+        absent.len(),
+        conditions.len(),
+        absences.len(),
+        actions.len(),
+        parents.len(),
+        depths.len(),
+    );
     if capacity == 0 {
         return Expanded::Full(0);
     }
+    let root = Condition {
+        present: goal,
+        absent: 0,
+    };
     conditions[0] = goal;
+    conditions::set_mask(absences, 0, 0);
     actions[0] = NO_ACTION;
     parents[0] = 0;
     depths[0] = 0;
-    if ends_list(until, goal) {
+    if ends_list(until, root) {
         return Expanded::Covered(1);
     }
     let count = count_of(needs.len(), adds.len(), deletes.len());
@@ -97,27 +131,31 @@ pub fn expand(
         if e == n {
             break Expanded::Exhausted(n);
         }
-        let condition = conditions[e];
+        let condition = conditions::condition_at(conditions, absences, e);
         let depth = depths[e];
         let mut next: usize = 0;
         'actions: while next < count {
             let a = next;
             next += 1;
-            let action = conditions::action_at(needs, adds, deletes, a);
+            let action = conditions::action_at(needs, absent, adds, deletes, a);
             if conditions::is_relevant(action, condition) {
                 let new = conditions::regress(action, condition);
-                let found = conditions::newest_weaker(conditions, n, new);
-                if let Found::Nowhere = found {
-                    if n == capacity {
-                        break 'entries Expanded::Full(n);
-                    }
-                    conditions[n] = new;
-                    actions[n] = a as u8;
-                    parents[n] = e as u16;
-                    depths[n] = depth + 1;
-                    n += 1;
-                    if ends_list(until, new) {
-                        break 'entries Expanded::Covered(n);
+                // A condition that wants a fact both ways is dropped.
+                if conditions::is_consistent(new) {
+                    let found = conditions::newest_weaker(conditions, absences, n, new);
+                    if let Found::Nowhere = found {
+                        if n == capacity {
+                            break 'entries Expanded::Full(n);
+                        }
+                        conditions[n] = new.present;
+                        conditions::set_mask(absences, n, new.absent);
+                        actions[n] = a as u8;
+                        parents[n] = e as u16;
+                        depths[n] = depth + 1;
+                        n += 1;
+                        if ends_list(until, new) {
+                            break 'entries Expanded::Covered(n);
+                        }
                     }
                 }
             }

@@ -1,11 +1,14 @@
--- The domain of document 01: states are sets of facts, conditions and actions are those of crate `conditions`, and the actions are the jobs of a
--- table, by their numbers.
+-- The domain of document 01, with the pairs of document 02, W10: states are sets of facts, conditions and actions are those of crate `conditions`,
+-- and the actions are the jobs of a table, by their numbers.
 -- Definitions only; FactLaws.antt has the laws and the theorems.
-use mathlib.Core.Bool.{Bool, true, false, _&&_}
+use mathlib.Core.Path.{_≡_}
+use mathlib.Core.Bool.{Bool, false, not, _&&_}
 use Prim.Native.Nat.{ℕ, _<_}
 use lib.Dec.{T, ltb}
+use Rattle.masks.specs.Sets.{intersects}
 use Rattle.conditions.specs.declared.Action.{Action}
-use Rattle.conditions.specs.Condition.{Condition, weaker, satisfied, needed, applied, relevant, regressed, conditionWithin, ActionWithin}
+use Rattle.conditions.specs.declared.Condition.{Condition}
+use Rattle.conditions.specs.Condition.{weaker, consistent, satisfied, needed, applied, relevant, regressed, conditionWithin, ActionWithin}
 use Rattle.planning.specs.Domain.{Domain}
 use Rattle.planning.specs.Expansion.{Outcome, expand}
 
@@ -19,13 +22,13 @@ abbrev pub factDomain : Actions → (ℕ → ℕ) → Condition → Domain ℕ C
 factDomain A cost goal =
     record {
       satisfies = λ s c. satisfied c s;
-      -- "It is applicable when all its needs are held."
+      -- "It is applicable when all its needs are held", and "has its absent facts absent too"
       applicable = λ a s. ltb a (A .count) && satisfied (needed (A .action a)) s;
       result = λ a s. applied (A .action a) s;
       relevant = λ a c. ltb a (A .count) && relevant (A .action a) c;
       regress = λ a c. regressed (A .action a) c;
-      -- the state that holds just the condition meets it
-      satisfiable = λ c. true;
+      -- "A pair that wants a fact both ways is dropped"
+      satisfiable = consistent;
       weaker = weaker;
       cost = cost;
       goal = goal;
@@ -46,6 +49,15 @@ startPlan A goal capacity start = factPlan A goal capacity (λ c. satisfied c st
 -- document 02, W2: a plan that "takes no start and stops only when all entries are expanded or number 10 arises"
 abbrev pub shiftPlan : Actions → Condition → ℕ → Outcome Condition
 shiftPlan A goal capacity = factPlan A goal capacity (λ c. false)
+
+-- no action adds a fact that it deletes: number 6
+abbrev pub Separate : Actions → Type 0
+Separate A = (a : ℕ) → a < A .count → T (not (intersects (A .action a .adds) (A .action a .deletes)))
+
+-- nothing is to be absent, for any action or at the goal: the table has no 0x21
+pub record Plain (A : Actions) (goal : Condition) : Type 0 where
+  pub goal-plain : goal .absent ≡ 0
+  pub actions-plain : (a : ℕ) → a < A .count → A .action a .absent ≡ 0
 
 -- the goal and the actions keep to the facts below f
 pub record WithinFacts (f : ℕ) (A : Actions) (goal : Condition) : Type 0 where
