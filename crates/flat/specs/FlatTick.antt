@@ -2,31 +2,33 @@
 -- Definitions only.
 use Prim.Native.Nat.{ℕ, _<_}
 use mathlib.Core.Path.{_≡_}
+use mathlib.Core.Bool.{Bool}
 use mathlib.Core.List.{List, [], _∷_}
 use lib.Dec.{T}
 use lib.ListN.{length, getD}
 use Rattle.reading.specs.declared.Reading.{Reading}
 use Rattle.conditions.specs.declared.Evaluation.the-variants.{Met, Missed, Open}
-use Rattle.conditions.specs.Condition.{Condition, satisfied}
+use Rattle.conditions.specs.declared.Condition.{Condition}
+use Rattle.conditions.specs.Condition.{consistent, satisfied}
 use Rattle.conditions.specs.OnReading.{evaluated, Confirmed}
 use Rattle.planning.specs.Expansion.{Entry}
 use Rattle.tree.specs.declared.Status.{Status}
 use Rattle.tree.specs.declared.Status.the-variants.{Success, Failure, Running, Unsettled}
 use Rattle.tree.specs.Tick.{Verdict}
 use Rattle.flat.specs.TreeBytes.{conditionAt, actionAt, pastEntry, rootConditionAt}
-use Rattle.flat.specs.FlatTree.{laterAt}
+use Rattle.flat.specs.FlatTree.{laterAt, Each}
 
 abbrev pub verdict : Status → ℕ → Verdict
 verdict a leaf = record { answer = a; leaf = leaf }
 
-module _ (r : Reading) where
+module _ (paired : Bool) (r : Reading) where
   -- the entries after the first, from an offset on; the leaf before them failed
   unfoldable pub laterVerdict : ℕ → List (Entry Condition) → ℕ → Verdict
   laterVerdict before [] at = verdict Failure before
   laterVerdict before (x ∷ l) at =
       elim (evaluated r (x .condition)) [
-        | Met ↦ verdict (Running (x .action)) (actionAt x at)
-        | Missed ↦ laterVerdict (conditionAt at) l (pastEntry x at)
+        | Met ↦ verdict (Running (x .action)) (actionAt paired x at)
+        | Missed ↦ laterVerdict (conditionAt at) l (pastEntry paired x at)
         | Open m ↦ verdict (Unsettled m) (conditionAt at)
       ]
 
@@ -35,14 +37,20 @@ module _ (r : Reading) where
   listVerdict x l =
       elim (evaluated r (x .condition)) [
         | Met ↦ verdict Success (rootConditionAt (length (x ∷ l)))
-        | Missed ↦ laterVerdict (rootConditionAt (length (x ∷ l))) l (laterAt (length (x ∷ l)) x)
+        | Missed ↦ laterVerdict (rootConditionAt (length (x ∷ l))) l (laterAt paired (length (x ∷ l)) x)
         | Open m ↦ verdict (Unsettled m) (rootConditionAt (length (x ∷ l)))
       ]
+
+-- ---- what is asked of the list
+
+-- no listed condition wants a fact both ways: "A pair that wants a fact both ways is dropped"
+abbrev pub Consistent : List (Entry Condition) → Type 0
+Consistent = Each (λ x. T (consistent (x .condition)))
 
 -- ---- entries by their places; `none` is what stands past the last one
 
 module _ (none : Entry Condition) where
-  -- the job is that of an entry whose condition is read and held
+  -- the job is that of an entry whose condition is read, and met by what was read
   pub record Named (l : List (Entry Condition)) (r : Reading) (job : ℕ) : Type 0 where
     pub at : ℕ
     pub inside : at < length l

@@ -1,11 +1,13 @@
 -- The tree that the bytes of an expansion list hold: document 01, "Expansion". Source document 001 calls it the flat tree.
 -- Definitions only.
 use Prim.Native.Nat.{ℕ, _≤_, _<_}
+use mathlib.Core.Path.{_≡_}
+use mathlib.Core.Bool.{Bool, true, false}
 use mathlib.Core.List.{List, [], _∷_}
 use lib.Dec.{T}
 use lib.ListN.{length}
-use Rattle.masks.specs.Sets.{within}
-use Rattle.conditions.specs.Condition.{Condition}
+use Rattle.conditions.specs.declared.Condition.{Condition}
+use Rattle.conditions.specs.Condition.{conditionWithin}
 use Rattle.planning.specs.Expansion.{Entry}
 use Rattle.tree.specs.declared.Kind.the-variants.{Fallback, Sequence}
 use Rattle.tree.specs.declared.Leaf.the-variants as Leaf
@@ -13,27 +15,31 @@ use Rattle.tree.specs.Tree.{Tree, Row, leaf, node, one, more}
 use Rattle.tree.specs.ReadTree.{maxChildren}
 use Rattle.flat.specs.TreeBytes.{firstBytes, conditionAt, actionAt, pastEntry, rootConditionAt}
 
--- an entry after the first, whose SEQUENCE stands at an offset
-abbrev pub laterTree : Entry Condition → ℕ → Tree
-laterTree x at = node Sequence (more (leaf (Leaf.Condition (x .condition)) (conditionAt at)) (one (leaf (Leaf.Action (x .action)) (actionAt x at))))
+-- both kinds of lists have the same tree but for the offsets of its leaves
+module _ (paired : Bool) where
+  -- an entry after the first, whose SEQUENCE stands at an offset
+  abbrev pub laterTree : Entry Condition → ℕ → Tree
+  laterTree x at =
+      node Sequence (more (leaf (Leaf.Condition (x .condition)) (conditionAt at)) (one (leaf (Leaf.Action (x .action)) (actionAt paired x at))))
 
--- a child, and one more for each of the entries, the first of which stands at an offset
-unfoldable pub rowFrom : Tree → List (Entry Condition) → ℕ → Row
-rowFrom t [] at = one t
-rowFrom t (x ∷ l) at = more t (rowFrom (laterTree x at) l (pastEntry x at))
+  -- a child, and one more for each of the entries, the first of which stands at an offset
+  unfoldable pub rowFrom : Tree → List (Entry Condition) → ℕ → Row
+  rowFrom t [] at = one t
+  rowFrom t (x ∷ l) at = more t (rowFrom (laterTree x at) l (pastEntry paired x at))
 
 -- the condition of entry 0, in a list of n entries
 abbrev pub rootTree : ℕ → Entry Condition → Tree
 rootTree n x = leaf (Leaf.Condition (x .condition)) (rootConditionAt n)
 
--- where the entries after the first begin
-abbrev pub laterAt : ℕ → Entry Condition → ℕ
-laterAt n x = length (firstBytes n (x .condition))
+module _ (paired : Bool) where
+  -- where the entries after the first begin
+  abbrev pub laterAt : ℕ → Entry Condition → ℕ
+  laterAt n x = length (firstBytes paired n (x .condition))
 
--- a list has at least entry 0; of none nothing is said
-unfoldable pub treeOf : List (Entry Condition) → Tree
-treeOf [] = leaf (Leaf.Action 0) 0
-treeOf (x ∷ l) = node Fallback (rowFrom (rootTree (length (x ∷ l)) x) l (laterAt (length (x ∷ l)) x))
+  -- a list has at least entry 0; of none nothing is said
+  unfoldable pub treeOf : List (Entry Condition) → Tree
+  treeOf [] = leaf (Leaf.Action 0) 0
+  treeOf (x ∷ l) = node Fallback (rowFrom paired (rootTree (length (x ∷ l)) x) l (laterAt (length (x ∷ l)) x))
 
 -- ---- the lists whose trees pass the checks of a tree, for a table with so many facts and jobs
 
@@ -46,9 +52,16 @@ abbrev pub EachLater : (Entry Condition → Type 0) → List (Entry Condition) �
 EachLater P [] = Unit {0}
 EachLater P (x ∷ l) = Each P l
 
-pub record Fits (facts jobs : ℕ) (l : List (Entry Condition)) : Type 0 where
+-- as many as a node has children; document 02, W10: "its capacity and W4's list are at most 2,978", so that its tree is no longer than a tree may be
+abbrev pub maxEntries : (paired : Bool) → ℕ
+maxEntries false = maxChildren
+maxEntries true = 2_978
+
+pub record Fits (paired : Bool) (facts jobs : ℕ) (l : List (Entry Condition)) : Type 0 where
   pub some : 1 ≤ length l
-  pub few : length l ≤ maxChildren
+  pub few : length l ≤ maxEntries paired
   pub facts-fit : facts ≤ 64
-  pub conditions-fit : Each (λ x. T (within facts (x .condition))) l
+  pub conditions-fit : Each (λ x. T (conditionWithin facts (x .condition))) l
+  -- a list that is not paired is written without its second masks
+  pub plain-fit : paired ≡ false → Each (λ x. x .condition .absent ≡ 0) l
   pub actions-fit : EachLater (λ x. x .action < jobs) l

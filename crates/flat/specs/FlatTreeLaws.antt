@@ -3,9 +3,10 @@
 use Prim.Native.Nat.{ℕ, zero, suc, _<_}
 use native.Mathlib.Omega.{arith}
 use mathlib.Core.Path.{_≡_, refl, ap}
+use mathlib.Core.Bool.{Bool}
 use mathlib.Core.List.{List, [], _∷_, _++_}
 use lib.ListN.{length, getD}
-use Rattle.conditions.specs.Condition.{Condition}
+use Rattle.conditions.specs.declared.Condition.{Condition}
 use Rattle.planning.specs.Expansion.{Entry}
 use Rattle.planning.specs.Columns.{entriesOf}
 use Rattle.flat.specs.TreeBytes.{laterEntries, treeBytes, treeEntries}
@@ -25,19 +26,20 @@ alike-length [] (y ∷ m) a = absurd a
 alike-length (x ∷ l) [] a = absurd a
 alike-length (x ∷ l) (y ∷ m) a = ap suc (alike-length l m (a .2))
 
-alike-later : (l m : List (Entry Condition)) → Alike l m → laterEntries l ≡ laterEntries m
-unfolding laterEntries
-alike-later [] [] a = refl
-alike-later [] (y ∷ m) a = absurd a
-alike-later (x ∷ l) [] a = absurd a
-alike-later (x ∷ l) (y ∷ m) a = rw (a .0, a .1, alike-later l m (a .2))
+module _ (paired : Bool) where
+  alike-later : (l m : List (Entry Condition)) → Alike l m → laterEntries paired l ≡ laterEntries paired m
+  unfolding laterEntries
+  alike-later [] [] a = refl
+  alike-later [] (y ∷ m) a = absurd a
+  alike-later (x ∷ l) [] a = absurd a
+  alike-later (x ∷ l) (y ∷ m) a = rw (a .0, a .1, alike-later l m (a .2))
 
-alike-tree : (l m : List (Entry Condition)) → Alike l m → treeBytes l ≡ treeBytes m
-unfolding treeBytes
-alike-tree [] [] a = refl
-alike-tree [] (y ∷ m) a = absurd a
-alike-tree (x ∷ l) [] a = absurd a
-alike-tree (x ∷ l) (y ∷ m) a = rw (a .0, alike-length l m (a .2), alike-later l m (a .2))
+  alike-tree : (l m : List (Entry Condition)) → Alike l m → treeBytes paired l ≡ treeBytes paired m
+  unfolding treeBytes
+  alike-tree [] [] a = refl
+  alike-tree [] (y ∷ m) a = absurd a
+  alike-tree (x ∷ l) [] a = absurd a
+  alike-tree (x ∷ l) (y ∷ m) a = rw (a .0, alike-length l m (a .2), alike-later l m (a .2))
 
 alike-append : (l m : List (Entry Condition)) (x y : Entry Condition) → Alike l m → x .condition ≡ y .condition → x .action ≡ y .action
     → Alike (l ++ (x ∷ [])) (m ++ (y ∷ []))
@@ -47,13 +49,14 @@ alike-append (z ∷ l) [] x y a c d = absurd a
 alike-append (z ∷ l) (w ∷ m) x y a c d = (a .0, a .1, alike-append l m x y (a .2) c d)
 
 -- the parents and the depths of the columns do not matter
-pub tree-columns : (conditions actions parents depths : List ℕ) (n : ℕ)
-    → treeBytes (entriesOf conditions actions parents depths n) ≡ treeBytes (treeEntries conditions actions n)
-tree-columns conditions actions parents depths n = alike-tree _ _ (alike n)
+pub tree-columns : (paired : Bool) (conditions absences actions parents depths : List ℕ) (n : ℕ)
+    → treeBytes paired (entriesOf conditions absences actions parents depths n) ≡ treeBytes paired (treeEntries conditions absences actions n)
+tree-columns paired conditions absences actions parents depths n = alike-tree paired _ _ (alike n)
   where
-    alike : (n : ℕ) → Alike (entriesOf conditions actions parents depths n) (treeEntries conditions actions n)
+    alike : (n : ℕ) → Alike (entriesOf conditions absences actions parents depths n) (treeEntries conditions absences actions n)
     alike zero = tt
-    alike (suc n) = alike-append (entriesOf conditions actions parents depths n) (treeEntries conditions actions n) _ _ (alike n) refl refl
+    alike (suc n) =
+        alike-append (entriesOf conditions absences actions parents depths n) (treeEntries conditions absences actions n) _ _ (alike n) refl refl
 
 -- ---- what holds of each entry, by its place
 

@@ -4,25 +4,26 @@ use Prim.Native.Nat.{ℕ, suc, _+_, _-_, _^_, _≤_, _<_}
 use native.Mathlib.Nat.{add-zero, zero-add}
 use native.Mathlib.Omega.{arith}
 use mathlib.Core.Path.{_≡_, refl, sym, ap, _∙_}
-use mathlib.Core.Bool.{true}
+use mathlib.Core.Bool.{Bool, true, false}
 use mathlib.Core.List.{List, [], _∷_, _++_, append-assoc}
 use lib.Dec.{T}
 use lib.ListN.{length, getD, drop, length-drop, length-append}
 use lib.Seq.{drop-drop, drop-at, getD-drop}
 use borrow.Author.Tests.{lt-ltb, le-leb, eq-eqb}
-use Rattle.base.specs.Bools.{is-true}
+use Rattle.base.specs.Bools.{is-true, and-left, and-right}
 use Rattle.masks.specs.Sets.{within}
 use Rattle.masks.specs.Laws.{within-word}
 use Rattle.refusal.specs.Checked.{accepted}
 use Rattle.commands.specs.declared.Found.the-variants.{Whole}
-use Rattle.commands.specs.Commands.{CONDITION, JOB-LEAF, END-OF-TREE, OPERANDS-AT, MASK-WIDTH, widthOf, commandAt}
+use Rattle.commands.specs.Commands.{CONDITION, PAIR, JOB-LEAF, END-OF-TREE, OPERANDS-AT, ABSENT-AT, MASK-WIDTH, widthOf, commandAt}
 use Rattle.commands.specs.CommandLaws.{at-whole}
 use Rattle.numbers.specs.Numbers.{toBytes, numberAt}
 use Rattle.numbers.specs.NumberLaws.{from-to, read-drop}
 use Rattle.reading.specs.declared.Reading.{Reading}
 use Rattle.reading.specs.Reading.{sound}
 use Rattle.reading.specs.ReadingLaws.{checked-sound}
-use Rattle.conditions.specs.Condition.{Condition}
+use Rattle.conditions.specs.declared.Condition.{Condition}
+use Rattle.conditions.specs.Condition.{plain, conditionWithin}
 use Rattle.table.specs.Table.{Table}
 use Rattle.table.specs.Read.{readTable}
 use Rattle.planning.specs.Expansion.{Entry}
@@ -31,14 +32,14 @@ use Rattle.tree.specs.declared.Kind.the-variants.{Fallback, Sequence}
 use Rattle.tree.specs.declared.Leaf.the-variants as Leaf
 use Rattle.tree.specs.Tree as Tree
 use Rattle.tree.specs.Tree.{Tree, node}
-use Rattle.tree.specs.ReadTree.{maxTreeBytes, maxChildren, maxDepth, branch, leaf, wholeAt, kindByte, countWidth, countAt, nodeAt, readEnd, readRow, readNode, readTree}
-use Rattle.tree.specs.ReadTreeLaws.{condition-whole, action-whole, branch-counted}
+use Rattle.tree.specs.ReadTree.{maxTreeBytes, maxChildren, maxDepth, branch, leaf, wholeAt, kindByte, countWidth, countAt, maskAt, nodeAt, readEnd, readRow, readNode, readTree}
+use Rattle.tree.specs.ReadTreeLaws.{condition-whole, pair-whole, action-whole, branch-counted}
 use Rattle.tree.specs.Tick.{tickTree}
 use Rattle.tree.specs.TickBytes.{tickChecked, tickBytes}
 use Rattle.tree.specs.TickBytesLaws.{bytes-read}
 use Rattle.flat.specs.TreeBytes.{branchBytes, conditionBytes, actionBytes, endBytes, firstBytes, entryBytes, laterEntries, treeBytes, conditionAt, actionAt, pastEntry, rootConditionAt}
 use Rattle.flat.specs.TreeBytesLaws.{tree-length}
-use Rattle.flat.specs.FlatTree.{laterTree, rowFrom, rootTree, laterAt, treeOf, Each, Fits}
+use Rattle.flat.specs.FlatTree.{laterTree, rowFrom, rootTree, laterAt, treeOf, maxEntries, Each, Fits}
 
 -- ---- bytes that stand at an offset
 
@@ -54,14 +55,24 @@ room s xs ys at e = sym (length-drop at s) ∙ ap length e ∙ length-append xs 
 -- ---- nodes that stand at an offset
 
 module _ (s rest : List ℕ) (at : ℕ) where
-  node-condition : (c : Condition) → c < 2 ^ 64 → drop at s ≡ conditionBytes c ++ rest
-      → accepted (record { value = leaf (Leaf.Condition c); next = at + length (conditionBytes c) }) ≡ nodeAt s at
+  -- a condition with one mask is read back if nothing is to be absent
+  node-condition : (paired : Bool) (c : Condition) → c .present < 2 ^ 64 → c .absent < 2 ^ 64 → (paired ≡ false → c .absent ≡ 0)
+      → drop at s ≡ conditionBytes paired c ++ rest
+      → accepted (record { value = leaf (Leaf.Condition c); next = at + length (conditionBytes paired c) }) ≡ nodeAt s at
   unfolding conditionBytes toBytes numberAt
-  node-condition c h e =
-      let value : numberAt MASK-WIDTH s (at + OPERANDS-AT) ≡ c =
-      read-drop MASK-WIDTH s at OPERANDS-AT ∙ ap (λ (l : List ℕ). numberAt MASK-WIDTH l OPERANDS-AT) e ∙ from-to MASK-WIDTH c h in
-      let size = room s (conditionBytes c) rest at e in
-      rw value at (condition-whole s at (omega arith) (here s _ at CONDITION e) (omega arith))
+  node-condition false c h k q e =
+      let value : maskAt s at ≡ c .present =
+      read-drop MASK-WIDTH s at OPERANDS-AT ∙ ap (λ (l : List ℕ). numberAt MASK-WIDTH l OPERANDS-AT) e ∙ from-to MASK-WIDTH (c .present) h in
+      let same : plain (maskAt s at) ≡ c = rw (value, ← q refl) in
+      let size = room s (conditionBytes false c) rest at e in
+      rw same at (condition-whole s at (omega arith) (here s _ at CONDITION e) (omega arith))
+  node-condition true c h k q e =
+      let present : maskAt s at ≡ c .present =
+      read-drop MASK-WIDTH s at OPERANDS-AT ∙ ap (λ (l : List ℕ). numberAt MASK-WIDTH l OPERANDS-AT) e ∙ from-to MASK-WIDTH (c .present) h in
+      let absent : numberAt MASK-WIDTH s (at + ABSENT-AT) ≡ c .absent =
+      read-drop MASK-WIDTH s at ABSENT-AT ∙ ap (λ (l : List ℕ). numberAt MASK-WIDTH l ABSENT-AT) e ∙ from-to MASK-WIDTH (c .absent) k in
+      let size = room s (conditionBytes true c) rest at e in
+      rw (present, absent) at (pair-whole s at (omega arith) (here s _ at PAIR e) (omega arith))
 
   node-action : (job : ℕ) → drop at s ≡ actionBytes job ++ rest → accepted (record { value = leaf (Leaf.Action job); next = at + length (actionBytes job) }) ≡ nodeAt s at
   unfolding actionBytes
@@ -88,82 +99,112 @@ end-read s at t e =
 
 -- ---- entries, for a table with so many facts and jobs
 
-module _ (s : List ℕ) (facts jobs : ℕ) (few : facts ≤ 64) where
-  condition-read : (levels at : ℕ) (c : Condition) (rest : List ℕ) → T (within facts c) → drop at s ≡ conditionBytes c ++ rest
-      → readNode s facts jobs (suc levels) at ≡ accepted (record { value = Tree.leaf (Leaf.Condition c) at; next = at + length (conditionBytes c) })
+module _ (paired : Bool) (s : List ℕ) (facts jobs : ℕ) (few : facts ≤ 64) where
+  condition-read : (levels at : ℕ) (c : Condition) (rest : List ℕ) → T (conditionWithin facts c) → (paired ≡ false → c .absent ≡ 0)
+      → drop at s ≡ conditionBytes paired c ++ rest
+      → readNode s facts jobs (suc levels) at ≡ accepted (record { value = Tree.leaf (Leaf.Condition c) at; next = at + length (conditionBytes paired c) })
   unfolding readNode
-  condition-read levels at c rest w e = rw (← node-condition s rest at c (within-word facts c few w) e, is-true (within facts c) w)
+  condition-read levels at c rest w q e =
+      let present = within-word facts (c .present) few (and-left (within facts (c .present)) _ w) in
+      let absent = within-word facts (c .absent) few (and-right (within facts (c .present)) _ w) in
+      rw (← node-condition s rest at paired c present absent q e, is-true (conditionWithin facts c) w)
 
   action-read : (levels at job : ℕ) (rest : List ℕ) → job < jobs → drop at s ≡ actionBytes job ++ rest
       → readNode s facts jobs (suc levels) at ≡ accepted (record { value = Tree.leaf (Leaf.Action job) at; next = at + length (actionBytes job) })
   unfolding readNode
   action-read levels at job rest h e = rw (← node-action s rest at job e, lt-ltb job jobs h)
 
-  later-read : (levels at : ℕ) (x : Entry Condition) (rest : List ℕ) → T (within facts (x .condition)) → x .action < jobs
-      → drop at s ≡ entryBytes (x .condition) (x .action) ++ rest
-      → readNode s facts jobs (suc (suc levels)) at ≡ accepted (record { value = laterTree x at; next = pastEntry x at })
+  later-read : (levels at : ℕ) (x : Entry Condition) (rest : List ℕ) → T (conditionWithin facts (x .condition))
+      → (paired ≡ false → x .condition .absent ≡ 0) → x .action < jobs → drop at s ≡ entryBytes paired (x .condition) (x .action) ++ rest
+      → readNode s facts jobs (suc (suc levels)) at ≡ accepted (record { value = laterTree paired x at; next = pastEntry paired x at })
   unfolding readNode readRow entryBytes
-  later-read levels at x rest w h e =
-      let c = conditionBytes (x .condition) in
+  later-read levels at x rest w q h e =
+      let c = conditionBytes paired (x .condition) in
       let a = actionBytes (x .action) in
       let all : drop at s ≡ branchBytes Sequence 2 ++ (c ++ (a ++ rest)) =
       e ∙ append-assoc (branchBytes Sequence 2) (c ++ a) rest ∙ ap (λ (l : List ℕ). branchBytes Sequence 2 ++ l) (append-assoc c a rest) in
       let head = node-branch s (c ++ (a ++ rest)) at Sequence 2 (omega arith) (omega arith) all in
       let from-condition = drop-next s (branchBytes Sequence 2) (c ++ (a ++ rest)) at all in
-      let first = condition-read levels (conditionAt at) (x .condition) (a ++ rest) w from-condition in
-      let second = action-read levels (actionAt x at) (x .action) rest h (drop-next s c (a ++ rest) (conditionAt at) from-condition) in
-      let past : actionAt x at + length a ≡ pastEntry x at = omega (arith, length-append (branchBytes Sequence 2) (c ++ a), length-append c a) in
+      let first = condition-read levels (conditionAt at) (x .condition) (a ++ rest) w q from-condition in
+      let second = action-read levels (actionAt paired x at) (x .action) rest h (drop-next s c (a ++ rest) (conditionAt at) from-condition) in
+      let past : actionAt paired x at + length a ≡ pastEntry paired x at = omega (arith, length-append (branchBytes Sequence 2) (c ++ a), length-append c a) in
       rw (← head, first, second, past)
 
   row-read : (levels : ℕ) (l : List (Entry Condition)) (t : Tree) (before at : ℕ) (rest : List ℕ)
-      → Each (λ x. T (within facts (x .condition))) l → Each (λ x. x .action < jobs) l
-      → readNode s facts jobs (suc (suc levels)) before ≡ accepted (record { value = t; next = at }) → drop at s ≡ laterEntries l ++ rest
-      → readRow (readNode s facts jobs (suc (suc levels))) (length l) before ≡ accepted (record { value = rowFrom t l at; next = at + length (laterEntries l) })
+      → Each (λ x. T (conditionWithin facts (x .condition))) l → (paired ≡ false → Each (λ x. x .condition .absent ≡ 0) l) → Each (λ x. x .action < jobs) l
+      → readNode s facts jobs (suc (suc levels)) before ≡ accepted (record { value = t; next = at }) → drop at s ≡ laterEntries paired l ++ rest
+      → readRow (readNode s facts jobs (suc (suc levels))) (length l) before
+      ≡ accepted (record { value = rowFrom paired t l at; next = at + length (laterEntries paired l) })
   unfolding readRow rowFrom laterEntries
-  row-read levels [] t before at rest w h e d = let same : at + 0 ≡ at = omega arith in rw (e, same)
-  row-read levels (x ∷ l) t before at rest w h e d =
-      let bytes = entryBytes (x .condition) (x .action) in
-      let split = d ∙ append-assoc bytes (laterEntries l) rest in
-      let child = later-read levels at x (laterEntries l ++ rest) (w .0) (h .0) split in
-      let past : pastEntry x at + length (laterEntries l) ≡ at + length (bytes ++ laterEntries l) = omega (arith, length-append bytes (laterEntries l)) in
-      rw (e, row-read levels l (laterTree x at) at (pastEntry x at) rest (w .1) (h .1) child (drop-next s bytes (laterEntries l ++ rest) at split), past)
+  row-read levels [] t before at rest w q h e d = let same : at + 0 ≡ at = omega arith in rw (e, same)
+  row-read levels (x ∷ l) t before at rest w q h e d =
+      let bytes = entryBytes paired (x .condition) (x .action) in
+      let others = laterEntries paired l in
+      let split = d ∙ append-assoc bytes others rest in
+      let child = later-read levels at x (others ++ rest) (w .0) (λ p. q p .0) (h .0) split in
+      let past : pastEntry paired x at + length others ≡ at + length (bytes ++ others) = omega (arith, length-append bytes others) in
+      let from-next = drop-next s bytes (others ++ rest) at split in
+      rw (e, row-read levels l (laterTree paired x at) at (pastEntry paired x at) rest (w .1) (λ p. q p .1) (h .1) child from-next, past)
 
 -- ---- the whole tree
 
-module _ (facts jobs : ℕ) (x : Entry Condition) (l : List (Entry Condition)) (f : Fits facts jobs (x ∷ l)) where
+-- a list that fits has no more entries than a node has children, and its tree no more bytes than a tree may have
+few-children : (paired : Bool) → maxEntries paired ≤ maxChildren
+few-children false = omega arith
+few-children true = omega arith
+
+few-bytes : (paired : Bool) (l : List (Entry Condition)) → 0 < length l → length l ≤ maxEntries paired → length (treeBytes paired l) ≤ maxTreeBytes
+few-bytes false l h k = omega (arith, tree-length false l h)
+few-bytes true l h k = omega (arith, tree-length true l h)
+
+module _ (paired : Bool) (facts jobs : ℕ) (x : Entry Condition) (l : List (Entry Condition)) (f : Fits paired facts jobs (x ∷ l)) where
   abbrev bytes : List ℕ
-  bytes = treeBytes (x ∷ l)
+  bytes = treeBytes paired (x ∷ l)
 
   abbrev size : ℕ
   size = length (x ∷ l)
 
+  abbrev condition : List ℕ
+  condition = conditionBytes paired (x .condition)
+
+  -- the bytes of the entries after the first, and where they begin
+  abbrev rest : List ℕ
+  rest = laterEntries paired l
+
+  abbrev rest-at : ℕ
+  rest-at = laterAt paired size x
+
   abbrev root : Tree
-  root = node Fallback (rowFrom (rootTree size x) l (laterAt size x))
+  root = node Fallback (rowFrom paired (rootTree size x) l rest-at)
 
   from-start : (xs ys : List ℕ) → drop 0 bytes ≡ xs ++ ys → drop (length xs) bytes ≡ ys
   from-start xs ys e = ap (λ (k : ℕ). drop k bytes) (sym (zero-add (length xs))) ∙ drop-next bytes xs ys 0 e
 
-  start : drop 0 bytes ≡ branchBytes Fallback size ++ (conditionBytes (x .condition) ++ (laterEntries l ++ endBytes))
+  start : drop 0 bytes ≡ branchBytes Fallback size ++ (condition ++ (rest ++ endBytes))
   unfolding treeBytes firstBytes
-  start = append-assoc (branchBytes Fallback size) (conditionBytes (x .condition)) (laterEntries l ++ endBytes)
+  start = append-assoc (branchBytes Fallback size) condition (rest ++ endBytes)
 
-  first : drop (rootConditionAt size) bytes ≡ conditionBytes (x .condition) ++ (laterEntries l ++ endBytes)
-  first = from-start (branchBytes Fallback size) (conditionBytes (x .condition) ++ (laterEntries l ++ endBytes)) start
+  first : drop (rootConditionAt size) bytes ≡ condition ++ (rest ++ endBytes)
+  first = from-start (branchBytes Fallback size) (condition ++ (rest ++ endBytes)) start
 
-  others : drop (laterAt size x) bytes ≡ laterEntries l ++ endBytes
+  others : drop rest-at bytes ≡ rest ++ endBytes
   unfolding treeBytes
-  others = from-start (firstBytes size (x .condition)) (laterEntries l ++ endBytes) refl
+  others = from-start (firstBytes paired size (x .condition)) (rest ++ endBytes) refl
 
-  last : drop (laterAt size x + length (laterEntries l)) bytes ≡ endBytes
-  last = drop-next bytes (laterEntries l) endBytes (laterAt size x) others
+  last : drop (rest-at + length rest) bytes ≡ endBytes
+  last = drop-next bytes rest endBytes rest-at others
 
-  root-read : readNode bytes facts jobs maxDepth 0 ≡ accepted (record { value = root; next = laterAt size x + length (laterEntries l) })
+  root-read : readNode bytes facts jobs maxDepth 0 ≡ accepted (record { value = root; next = rest-at + length rest })
   unfolding readNode firstBytes
   root-read =
-      let head = node-branch bytes _ 0 Fallback size (f .some) (f .few) start in
-      let child = condition-read bytes facts jobs (f .facts-fit) (maxDepth - 2) (rootConditionAt size) (x .condition) _ (f .conditions-fit .0) first in
-      let past : rootConditionAt size + length (conditionBytes (x .condition)) ≡ laterAt size x = sym (length-append (branchBytes Fallback size) (conditionBytes (x .condition))) in
-      let row = row-read bytes facts jobs (f .facts-fit) (maxDepth - 3) l (rootTree size x) (rootConditionAt size) (laterAt size x) endBytes (f .conditions-fit .1) (f .actions-fit) (rw past at child) others in
+      let head = node-branch bytes _ 0 Fallback size (f .some) (omega (arith, f .few, few-children paired)) start in
+      let child =
+      condition-read paired bytes facts jobs (f .facts-fit) (maxDepth - 2) (rootConditionAt size) (x .condition) _ (f .conditions-fit .0)
+      (λ p. f .plain-fit p .0) first in
+      let past : rootConditionAt size + length condition ≡ rest-at = sym (length-append (branchBytes Fallback size) condition) in
+      let row =
+      row-read paired bytes facts jobs (f .facts-fit) (maxDepth - 3) l (rootTree size x) (rootConditionAt size) rest-at endBytes (f .conditions-fit .1)
+      (λ p. f .plain-fit p .1) (f .actions-fit) (rw past at child) others in
       let less : suc (length l) - 1 ≡ length l = omega arith in
       let begins : 0 + length (branchBytes Fallback size) ≡ rootConditionAt size = zero-add (length (branchBytes Fallback size)) in
       rw (← head, less, begins, row)
@@ -171,21 +212,23 @@ module _ (facts jobs : ℕ) (x : Entry Condition) (l : List (Entry Condition)) (
   whole-read : readTree bytes facts jobs ≡ accepted root
   unfolding readTree
   whole-read =
-      let fits : length bytes ≤ maxTreeBytes = omega (arith, tree-length (x ∷ l) (omega arith), f .few) in
-      rw (le-leb (length bytes) maxTreeBytes fits, root-read) (end-read bytes (laterAt size x + length (laterEntries l)) root last)
+      rw (le-leb (length bytes) maxTreeBytes (few-bytes paired (x ∷ l) (omega arith) (f .few)), root-read) (end-read bytes (rest-at + length rest) root last)
 
-pub tree-read : (facts jobs : ℕ) (l : List (Entry Condition)) → Fits facts jobs l → readTree (treeBytes l) facts jobs ≡ accepted (treeOf l)
+pub tree-read : (paired : Bool) (facts jobs : ℕ) (l : List (Entry Condition)) → Fits paired facts jobs l
+    → readTree (treeBytes paired l) facts jobs ≡ accepted (treeOf paired l)
 unfolding treeOf
-tree-read facts jobs [] f = absurd (omega (arith, f .some))
-tree-read facts jobs (x ∷ l) f = whole-read facts jobs x l f
+tree-read paired facts jobs [] f = absurd (omega (arith, f .some))
+tree-read paired facts jobs (x ∷ l) f = whole-read paired facts jobs x l f
 
 -- a tick on the tree of a list, under a table with so many facts and jobs
-pub tick-checked-read : (facts jobs : ℕ) (l : List (Entry Condition)) → Fits facts jobs l → (place : ℕ) (r : Reading) → sound facts r ≡ true
-    → tickChecked facts jobs (treeBytes l) place r ≡ accepted (tickTree r (treeOf l))
+pub tick-checked-read : (paired : Bool) (facts jobs : ℕ) (l : List (Entry Condition)) → Fits paired facts jobs l → (place : ℕ) (r : Reading)
+    → sound facts r ≡ true → tickChecked facts jobs (treeBytes paired l) place r ≡ accepted (tickTree r (treeOf paired l))
 unfolding tickChecked
-tick-checked-read facts jobs l f place r h = rw (← checked-sound facts r place h, tree-read facts jobs l f)
+tick-checked-read paired facts jobs l f place r h = rw (← checked-sound facts r place h, tree-read paired facts jobs l f)
 
 -- and from a table's bytes
-pub tick-read : (table : List ℕ) (t : Table) → readTable table ≡ accepted t → (l : List (Entry Condition)) → Fits (t .facts) (length (t .jobs)) l
-    → (r : Reading) → sound (t .facts) r ≡ true → tickBytes table (treeBytes l) r ≡ accepted (tickTree r (treeOf l))
-tick-read table t e l f r h = bytes-read table (treeBytes l) t e r ∙ tick-checked-read (t .facts) (length (t .jobs)) l f 0 r h
+pub tick-read : (paired : Bool) (table : List ℕ) (t : Table) → readTable table ≡ accepted t → (l : List (Entry Condition))
+    → Fits paired (t .facts) (length (t .jobs)) l → (r : Reading) → sound (t .facts) r ≡ true
+    → tickBytes table (treeBytes paired l) r ≡ accepted (tickTree r (treeOf paired l))
+tick-read paired table t e l f r h =
+    bytes-read table (treeBytes paired l) t e r ∙ tick-checked-read paired (t .facts) (length (t .jobs)) l f 0 r h

@@ -1,14 +1,16 @@
 -- The bytes of a list's tree: document 01, "Expansion". "A list of n entries is written as FALLBACK n; CONDITION of entry 0; for each later entry
--- SEQUENCE 2, CONDITION, JOB; END."
+-- SEQUENCE 2, CONDITION, JOB; END." Document 02, W10: "The tree gets 0x45 with both masks, allowed in any tree and used by the planner once the table
+-- has a 0x21": the list is then paired.
 -- Definitions only.
-use Prim.Native.Nat.{ℕ, _+_}
+use Prim.Native.Nat.{ℕ, _+_, _-_, _*_}
 use mathlib.Core.Path.{_≡_}
+use mathlib.Core.Bool.{Bool, true, false}
 use mathlib.Core.List.{List, [], _∷_, _++_}
 use lib.ListN.{length}
 use lib.Seq.{sets}
-use Rattle.commands.specs.Commands.{CONDITION, JOB-LEAF, END-OF-TREE, MASK-WIDTH}
+use Rattle.commands.specs.Commands.{CONDITION, PAIR, JOB-LEAF, END-OF-TREE, MASK-WIDTH}
 use Rattle.numbers.specs.Numbers.{toBytes}
-use Rattle.conditions.specs.Condition.{Condition}
+use Rattle.conditions.specs.declared.Condition.{Condition}
 use Rattle.planning.specs.Expansion.{Entry}
 use Rattle.planning.specs.Columns.{entriesOf}
 use Rattle.tree.specs.declared.Kind.{Kind}
@@ -20,8 +22,9 @@ use Rattle.tree.specs.ReadTree.{kindByte, countWidth}
 abbrev pub branchBytes : Kind → ℕ → List ℕ
 branchBytes kind count = kindByte kind ∷ toBytes countWidth count
 
-unfoldable pub conditionBytes : Condition → List ℕ
-conditionBytes c = CONDITION ∷ toBytes MASK-WIDTH c
+unfoldable pub conditionBytes : (paired : Bool) → Condition → List ℕ
+conditionBytes false c = CONDITION ∷ toBytes MASK-WIDTH (c .present)
+conditionBytes true c = PAIR ∷ toBytes MASK-WIDTH (c .present) ++ toBytes MASK-WIDTH (c .absent)
 
 unfoldable pub actionBytes : ℕ → List ℕ
 actionBytes action = JOB-LEAF ∷ action ∷ []
@@ -31,22 +34,28 @@ endBytes = END-OF-TREE ∷ []
 
 -- ---- the entries
 
--- "FALLBACK n; CONDITION of entry 0"
-unfoldable pub firstBytes : ℕ → Condition → List ℕ
-firstBytes n c = branchBytes Fallback n ++ conditionBytes c
+module _ (paired : Bool) where
+  -- "FALLBACK n; CONDITION of entry 0"
+  unfoldable pub firstBytes : ℕ → Condition → List ℕ
+  firstBytes n c = branchBytes Fallback n ++ conditionBytes paired c
 
--- an entry after the first: "SEQUENCE 2, CONDITION, JOB"
-unfoldable pub entryBytes : Condition → ℕ → List ℕ
-entryBytes c action = branchBytes Sequence 2 ++ (conditionBytes c ++ actionBytes action)
+  -- an entry after the first: "SEQUENCE 2, CONDITION, JOB"
+  unfoldable pub entryBytes : Condition → ℕ → List ℕ
+  entryBytes c action = branchBytes Sequence 2 ++ (conditionBytes paired c ++ actionBytes action)
 
-unfoldable pub laterEntries : List (Entry Condition) → List ℕ
-laterEntries [] = []
-laterEntries (x ∷ l) = entryBytes (x .condition) (x .action) ++ laterEntries l
+  unfoldable pub laterEntries : List (Entry Condition) → List ℕ
+  laterEntries [] = []
+  laterEntries (x ∷ l) = entryBytes (x .condition) (x .action) ++ laterEntries l
 
--- a list has at least entry 0; none has no tree
-unfoldable pub treeBytes : List (Entry Condition) → List ℕ
-treeBytes [] = []
-treeBytes (x ∷ l) = firstBytes (length (x ∷ l)) (x .condition) ++ (laterEntries l ++ endBytes)
+  -- a list has at least entry 0; none has no tree
+  unfoldable pub treeBytes : List (Entry Condition) → List ℕ
+  treeBytes [] = []
+  treeBytes (x ∷ l) = firstBytes (length (x ∷ l)) (x .condition) ++ (laterEntries l ++ endBytes)
+
+-- how many bytes that is, of n entries: "That is 14 × n − 1 bytes." "Such a tree has 22 × n − 1 bytes"
+abbrev pub treeSize : (paired : Bool) → ℕ → ℕ
+treeSize false n = 14 * n - 1
+treeSize true n = 22 * n - 1
 
 -- ---- where they stand
 
@@ -54,21 +63,22 @@ treeBytes (x ∷ l) = firstBytes (length (x ∷ l)) (x .condition) ++ (laterEntr
 abbrev pub conditionAt : ℕ → ℕ
 conditionAt at = at + length (branchBytes Sequence 2)
 
-abbrev pub actionAt : Entry Condition → ℕ → ℕ
-actionAt x at = conditionAt at + length (conditionBytes (x .condition))
+module _ (paired : Bool) where
+  abbrev pub actionAt : Entry Condition → ℕ → ℕ
+  actionAt x at = conditionAt at + length (conditionBytes paired (x .condition))
 
-abbrev pub pastEntry : Entry Condition → ℕ → ℕ
-pastEntry x at = at + length (entryBytes (x .condition) (x .action))
+  abbrev pub pastEntry : Entry Condition → ℕ → ℕ
+  pastEntry x at = at + length (entryBytes paired (x .condition) (x .action))
 
 -- where the condition of entry 0 stands, in a list of n entries
 abbrev pub rootConditionAt : ℕ → ℕ
 rootConditionAt n = length (branchBytes Fallback n)
 
--- ---- a list that is lent as its columns of conditions and actions
+-- ---- a list that is lent as its columns of conditions, second masks and actions
 
 -- its first n entries, as far as a tree shows them: without parents and depths
-abbrev pub treeEntries : List ℕ → List ℕ → ℕ → List (Entry Condition)
-treeEntries conditions actions n = entriesOf conditions actions [] [] n
+abbrev pub treeEntries : (conditions absences actions : List ℕ) → ℕ → List (Entry Condition)
+treeEntries conditions absences actions n = entriesOf conditions absences actions [] [] n
 
 -- Bytes are put at an offset, nothing else is changed, and the answer is the offset past them.
 pub record Puts (bytes : List ℕ) (at : ℕ) (before after : List ℕ) (next : ℕ) : Type 0 where

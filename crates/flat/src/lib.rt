@@ -1,27 +1,37 @@
-// The tree of an expansion list, written to bytes (document 01, "Expansion"). The list is lent as its columns of conditions and actions.
+// The tree of an expansion list, written to bytes (document 01, "Expansion"; document 02, W10). The list is lent as its columns of conditions, second
+// masks and actions. It is `paired` once its table has a 0x21: each condition is then written with both masks.
+use conditions::Condition;
 ghost use mathlib.Core.Path.{_≡_};
 ghost use mathlib.Core.List.{List, _∷_, _++_};
 ghost use Prim.Native.Nat.{_+_, _≤_};
 ghost use lib.ListN.{length, drop};
+ghost use Rattle.commands.specs.Commands.{MASK-WIDTH};
 ghost use Rattle.numbers.specs.Numbers.{toBytes};
-ghost use Rattle.conditions.specs.Condition.{Condition};
+ghost use Rattle.conditions.specs.declared.Condition.{Condition};
 ghost use Rattle.planning.specs.Expansion.{Entry};
 ghost use Rattle.tree.specs.ReadTree.{maxChildren, countWidth};
 ghost use Rattle.flat.specs.TreeBytes.{conditionBytes, actionBytes, endBytes, firstBytes, entryBytes, laterEntries, treeBytes, treeEntries, Puts};
 
-// What stands before the entries after the first, and what each of these takes, by the one table of commands.
-const FIRST_SIZE: usize = commands::FALLBACK_SIZE + commands::CONDITION_SIZE;
+// ---- sizes, by the one table of commands
 
-const ENTRY_SIZE: usize = commands::SEQUENCE_SIZE
-    + commands::CONDITION_SIZE
-    + commands::JOB_LEAF_SIZE;
+fn condition_size(paired: bool) -> usize
+    ensures { λ r. ⌜ ((c : Condition) → r ≡ length (conditionBytes paired c)) ⌝ }
+{
+    if paired {
+        return commands::PAIR_SIZE;
+    }
+    commands::CONDITION_SIZE
+}
 
 // How many bytes the tree of a list of so many entries takes.
-pub fn tree_size(n: usize) -> usize
+pub fn tree_size(paired: bool, n: usize) -> usize
     requires { ⌜ (1 ≤ n) × (n ≤ maxChildren) ⌝ }
-    ensures { λ r. ⌜ ((l : List (Entry Condition)) → length l ≡ n → r ≡ length (treeBytes l)) ⌝ }
+    ensures { λ r. ⌜ ((l : List (Entry Condition)) → length l ≡ n → r ≡ length (treeBytes paired l)) ⌝ }
 {
-    FIRST_SIZE + ENTRY_SIZE * (n - 1) + commands::END_OF_TREE_SIZE
+    let condition = condition_size(paired);
+    let first = commands::FALLBACK_SIZE + condition;
+    let entry = commands::SEQUENCE_SIZE + condition + commands::JOB_LEAF_SIZE;
+    first + entry * (n - 1) + commands::END_OF_TREE_SIZE
 }
 
 // ---- the parts of a tree: each is put at an offset, and the offset past it is answered
@@ -36,13 +46,26 @@ fn put_branch(tree: &mut [u8], at: usize, byte: u8, count: u16) -> usize
     at + commands::FALLBACK_SIZE
 }
 
-pub fn put_condition(tree: &mut [u8], at: usize, condition: u64) -> usize
-    requires { ⌜ at + length (conditionBytes condition) ≤ length (now tree) ⌝ }
-    ensures { λ r. ⌜ Puts (conditionBytes condition) at (now (tree .entry)) (now (tree .exit)) r ⌝ }
+// CONDITION, or what a PAIR begins with: the command and its first mask.
+fn put_mask(tree: &mut [u8], at: usize, byte: u8, mask: u64) -> usize
+    requires { ⌜ at + length (byte ∷ toBytes MASK-WIDTH mask) ≤ length (now tree) ⌝ }
+    ensures { λ r. ⌜ Puts (byte ∷ toBytes MASK-WIDTH mask) at (now (tree .entry)) (now (tree .exit)) r ⌝ }
 {
-    tree[at] = commands::CONDITION;
-    numbers::write_u64(tree, at + commands::OPERANDS_AT, condition);
+    tree[at] = byte;
+    numbers::write_u64(tree, at + commands::OPERANDS_AT, mask);
     at + commands::CONDITION_SIZE
+}
+
+pub fn put_condition(tree: &mut [u8], at: usize, paired: bool, condition: Condition) -> usize
+    requires { ⌜ at + length (conditionBytes paired condition) ≤ length (now tree) ⌝ }
+    ensures { λ r. ⌜ Puts (conditionBytes paired condition) at (now (tree .entry)) (now (tree .exit)) r ⌝ }
+{
+    if !paired {
+        return put_mask(tree, at, commands::CONDITION, condition.present);
+    }
+    let absent_at = put_mask(tree, at, commands::PAIR, condition.present);
+    numbers::write_u64(tree, absent_at, condition.absent);
+    at + commands::PAIR_SIZE
 }
 
 pub fn put_action(tree: &mut [u8], at: usize, action: u8) -> usize
@@ -55,21 +78,27 @@ pub fn put_action(tree: &mut [u8], at: usize, action: u8) -> usize
 }
 
 // What a list of `n` entries begins with: their number, and the condition of entry 0.
-pub fn put_first(tree: &mut [u8], n: u16, condition: u64) -> usize
-    requires { ⌜ length (firstBytes n condition) ≤ length (now tree) ⌝ }
-    ensures { λ r. ⌜ Puts (firstBytes n condition) 0 (now (tree .entry)) (now (tree .exit)) r ⌝ }
+pub fn put_first(tree: &mut [u8], paired: bool, n: u16, condition: Condition) -> usize
+    requires { ⌜ length (firstBytes paired n condition) ≤ length (now tree) ⌝ }
+    ensures { λ r. ⌜ Puts (firstBytes paired n condition) 0 (now (tree .entry)) (now (tree .exit)) r ⌝ }
 {
     let at = put_branch(tree, 0, commands::FALLBACK, n);
-    put_condition(tree, at, condition)
+    put_condition(tree, at, paired, condition)
 }
 
 // An entry after the first.
-pub fn put_later(tree: &mut [u8], at: usize, condition: u64, action: u8) -> usize
-    requires { ⌜ at + length (entryBytes condition action) ≤ length (now tree) ⌝ }
-    ensures { λ r. ⌜ Puts (entryBytes condition action) at (now (tree .entry)) (now (tree .exit)) r ⌝ }
+pub fn put_later(
+    tree: &mut [u8],
+    at: usize,
+    paired: bool,
+    condition: Condition,
+    action: u8,
+) -> usize
+    requires { ⌜ at + length (entryBytes paired condition action) ≤ length (now tree) ⌝ }
+    ensures { λ r. ⌜ Puts (entryBytes paired condition action) at (now (tree .entry)) (now (tree .exit)) r ⌝ }
 {
     let condition_at = put_branch(tree, at, commands::SEQUENCE, 2);
-    let action_at = put_condition(tree, condition_at, condition);
+    let action_at = put_condition(tree, condition_at, paired, condition);
     put_action(tree, action_at, action)
 }
 
@@ -84,28 +113,46 @@ pub fn put_end(tree: &mut [u8], at: usize) -> usize
 // ---- the tree
 
 // The entries after the first.
-fn put_entries(n: usize, conditions: &[u64], actions: &[u8], tree: &mut [u8], first: usize) -> usize
-    requires { ⌜ (1 ≤ n) × (n ≤ length (now conditions)) × (n ≤ length (now actions))
-        × (first + length (laterEntries (drop 1 (treeEntries (now conditions) (now actions) n))) ≤ length (now tree)) ⌝ }
-    ensures { λ r. ⌜ Puts (laterEntries (drop 1 (treeEntries (now (conditions .entry)) (now (actions .entry)) n))) first (now (tree .entry)) (now (tree .exit)) r ⌝ }
+fn put_entries(
+    paired: bool,
+    n: usize,
+    conditions: &[u64],
+    absences: &[u64],
+    actions: &[u8],
+    tree: &mut [u8],
+    first: usize,
+) -> usize
+    requires { ⌜ (1 ≤ n) × (n ≤ length (now actions))
+        × (first + length (laterEntries paired (drop 1 (treeEntries (now conditions) (now absences) (now actions) n))) ≤ length (now tree)) ⌝ }
+    ensures { λ r. ⌜ Puts (laterEntries paired (drop 1 (treeEntries (now (conditions .entry)) (now (absences .entry)) (now (actions .entry)) n))) first
+        (now (tree .entry)) (now (tree .exit)) r ⌝ }
 {
     let mut at = first;
     let mut i: usize = 1;
     while i < n {
-        at = put_later(tree, at, conditions[i], actions[i]);
+        let condition = conditions::condition_at(conditions, absences, i);
+        at = put_later(tree, at, paired, condition, actions[i]);
         i += 1;
     }
     at
 }
 
-// Writes the tree of the first `n` entries, and nothing past it.
-pub fn write_tree(n: usize, conditions: &[u64], actions: &[u8], tree: &mut [u8])
-    requires { ⌜ (1 ≤ n) × (n ≤ maxChildren) × (n ≤ length (now conditions)) × (n ≤ length (now actions))
-        × (length (treeBytes (treeEntries (now conditions) (now actions) n)) ≤ length (now tree)) ⌝ }
-    ensures { λ _. ⌜ now (tree .exit) ≡ treeBytes (treeEntries (now (conditions .entry)) (now (actions .entry)) n)
-        ++ drop (length (treeBytes (treeEntries (now (conditions .entry)) (now (actions .entry)) n))) (now (tree .entry)) ⌝ }
+// Writes the tree of the first `n` entries, and nothing past it. The second masks may be lent short: past their end nothing is to be absent.
+pub fn write_tree(
+    paired: bool,
+    n: usize,
+    conditions: &[u64],
+    absences: &[u64],
+    actions: &[u8],
+    tree: &mut [u8],
+)
+    requires { ⌜ (1 ≤ n) × (n ≤ maxChildren) × (n ≤ length (now actions))
+        × (length (treeBytes paired (treeEntries (now conditions) (now absences) (now actions) n)) ≤ length (now tree)) ⌝ }
+    ensures { λ _. ⌜ now (tree .exit) ≡ treeBytes paired (treeEntries (now (conditions .entry)) (now (absences .entry)) (now (actions .entry)) n)
+        ++ drop (length (treeBytes paired (treeEntries (now (conditions .entry)) (now (absences .entry)) (now (actions .entry)) n))) (now (tree .entry)) ⌝ }
 {
-    let first = put_first(tree, n as u16, conditions[0]);
-    let end = put_entries(n, conditions, actions, tree, first);
+    let goal = conditions::condition_at(conditions, absences, 0);
+    let first = put_first(tree, paired, n as u16, goal);
+    let end = put_entries(paired, n, conditions, absences, actions, tree, first);
     put_end(tree, end);
 }

@@ -70,13 +70,15 @@ fn pass(live: bool, answer: Status, next: usize) -> Walk
 fn tick_leaf(leaf: Leaf, at: usize, next: usize, depth: usize, live: bool, context: Context) -> Walk
     ensures { λ r. ⌜ walkOf r ≡ walkLeaf context at next depth live leaf ⌝ }
 {
+    let fits = tree::is_in_range(context.facts, context.jobs, leaf);
+    let answer = tree::answer(context.reading, leaf);
     if depth > MAX_DEPTH {
         return refuse(Reason::TreeTooDeep, at);
     }
-    if !tree::is_in_range(context.facts, context.jobs, leaf) {
+    if !fits {
         return refuse(Reason::TreeOperandOutOfRange, at);
     }
-    pass(live, tree::answer(context.reading, leaf), next)
+    pass(live, answer, next)
 }
 
 // A node with children that was read at an offset; its first child stands at `next`.

@@ -1,21 +1,26 @@
--- Which stop a bad tree meets first, computed from the definitions: document 01, "Stops, in checking order", 13 to 15.
+-- Which stop a bad tree meets first, and what a condition with both masks answers, computed from the definitions: document 01, "Stops, in checking
+-- order", 13 to 15, and "Ticking"; document 02, W10.
 use Prim.Native.Nat.{ℕ, zero, suc}
 use mathlib.Core.Path.{_≡_, refl}
 use mathlib.Core.List.{List, [], _∷_, _++_, map}
-use Rattle.masks.specs.Sets.{intersects, within}
+use Rattle.masks.specs.Sets.{subset, intersects, union, within}
 use Rattle.refusal.specs.Checked.{accepted, refused}
-use Rattle.commands.specs.Commands.{FACTS, GOAL, END-OF-TABLE, FALLBACK, SEQUENCE, CONDITION, JOB-LEAF, END-OF-TREE, MASK-WIDTH, widthOf, commandAt}
+use Rattle.commands.specs.Commands.{FACTS, GOAL, END-OF-TABLE, FALLBACK, SEQUENCE, CONDITION, JOB-LEAF, PAIR, END-OF-TREE, MASK-WIDTH, widthOf, commandAt}
 use Rattle.numbers.specs.Numbers.{fromBytes, toBytes, numberAt}
 use Rattle.reading.specs.declared.Reading.{Reading}
 use Rattle.reading.specs.Reading.{sound, checkedAt}
+use Rattle.conditions.specs.OnReading.{possible, evaluated}
 use Rattle.table.specs.Read.{due, readEnd, readGoal, readJobs, readTable}
-use Rattle.tree.specs.declared.Status.the-variants.{Running}
+use Rattle.tree.specs.declared.Status.the-variants.{Success, Failure, Running, Unsettled}
 use Rattle.tree.specs.ReadTree.{countWidth, wholeAt, operandsOf, nodeAt, readRow, readNode, readTree, readEnd as readTreeEnd}
 use Rattle.tree.specs.Tick.{tickBy}
 use Rattle.tree.specs.TickBytes.{tickChecked, tickBytes}
 
 abbrev asks : ℕ → List ℕ
 asks mask = CONDITION ∷ toBytes MASK-WIDTH mask
+
+abbrev asksPair : ℕ → ℕ → List ℕ
+asksPair present absent = PAIR ∷ toBytes MASK-WIDTH present ++ toBytes MASK-WIDTH absent
 
 abbrev does : ℕ → List ℕ
 does number = JOB-LEAF ∷ number ∷ []
@@ -38,6 +43,14 @@ pub stops : map (λ s. tickChecked 5 5 s 0 empty) (
     ∷ (does 4 ++ (END-OF-TREE ∷ 0 ∷ []))
     ∷ (does 5 ++ (END-OF-TREE ∷ []))
     ∷ (asks 0x20 ++ (END-OF-TREE ∷ []))
+    -- a bit at or above F in the first mask of a pair, and in its second
+    ∷ (asksPair 0x20 0 ++ (END-OF-TREE ∷ []))
+    ∷ (asksPair 0 0x20 ++ (END-OF-TREE ∷ []))
+    -- a pair with one mask, and one that lacks its last byte
+    ∷ (PAIR ∷ toBytes MASK-WIDTH 0 ++ (END-OF-TREE ∷ []))
+    ∷ (PAIR ∷ toBytes MASK-WIDTH 0 ++ toBytes 7 0)
+    -- a pair alone
+    ∷ (asksPair 0 0x10 ++ (END-OF-TREE ∷ []))
     ∷ (branch FALLBACK 0 ++ (END-OF-TREE ∷ []))
     ∷ (branch FALLBACK 4097 ++ (END-OF-TREE ∷ []))
     -- the tick is decided by the first child, and the second is looked at all the same
@@ -51,10 +64,41 @@ pub stops : map (λ s. tickChecked 5 5 s 0 empty) (
     ∷ under 15 (does 4 ++ (END-OF-TREE ∷ []))
     ∷ []
     )
-    ≡ refused 13 0 ∷ refused 13 2 ∷ refused 13 3 ∷ refused 15 0 ∷ refused 15 0 ∷ refused 13 0 ∷ refused 13 0 ∷ refused 15 5 ∷ refused 13 5 ∷ refused 15 3
+    ≡ refused 13 0 ∷ refused 13 2 ∷ refused 13 3 ∷ refused 15 0 ∷ refused 15 0 ∷ refused 15 0 ∷ refused 15 0 ∷ refused 13 0 ∷ refused 13 0
+    ∷ accepted (record { answer = Success; leaf = 0 }) ∷ refused 13 0 ∷ refused 13 0 ∷ refused 15 5 ∷ refused 13 5 ∷ refused 15 3
     ∷ refused 13 48 ∷ refused 14 48 ∷ accepted (record { answer = Running 4; leaf = 45 }) ∷ []
-unfolding tickChecked commandAt widthOf numberAt fromBytes toBytes checkedAt sound intersects within wholeAt operandsOf nodeAt readRow readNode readTree readTreeEnd tickBy
+unfolding tickChecked commandAt widthOf numberAt fromBytes toBytes checkedAt sound subset intersects union within possible evaluated wholeAt operandsOf nodeAt readRow
+    readNode readTree readTreeEnd tickBy
 stops = refl
+
+-- Fact 0 is to hold and fact 1 to be absent: what a tick answers on each reading. "An unread fact of either mask leaves a condition open unless a read
+-- one fails it."
+pub pairs : map (λ r. tickChecked 2 0 (asksPair 1 2 ++ (END-OF-TREE ∷ [])) 0 r) (
+    record { held = 1; unread = 0 }
+    ∷ record { held = 0; unread = 0 }
+    ∷ record { held = 3; unread = 0 }
+    ∷ record { held = 0; unread = 1 }
+    ∷ record { held = 1; unread = 2 }
+    ∷ record { held = 0; unread = 3 }
+    -- a read fact fails it, whatever is unread
+    ∷ record { held = 0; unread = 2 }
+    ∷ record { held = 2; unread = 1 }
+    ∷ []
+    )
+    ≡ map (λ a. accepted (record { answer = a; leaf = 0 }))
+    (Success ∷ Failure ∷ Failure ∷ Unsettled 1 ∷ Unsettled 2 ∷ Unsettled 3 ∷ Failure ∷ Failure ∷ [])
+unfolding tickChecked commandAt widthOf numberAt fromBytes toBytes checkedAt sound subset intersects union within possible evaluated wholeAt operandsOf nodeAt readNode
+    readTree readTreeEnd tickBy
+pairs = refl
+
+-- a pair that wants a fact both ways is no stop: it fails where the fact is read, and is unsettled where it is not
+pub contrary : map (λ r. tickChecked 2 0 (asksPair 1 1 ++ (END-OF-TREE ∷ [])) 0 r) (
+    record { held = 1; unread = 0 } ∷ record { held = 0; unread = 0 } ∷ record { held = 0; unread = 1 } ∷ []
+    )
+    ≡ map (λ a. accepted (record { answer = a; leaf = 0 })) (Failure ∷ Failure ∷ Unsettled 1 ∷ [])
+unfolding tickChecked commandAt widthOf numberAt fromBytes toBytes checkedAt sound subset intersects union within possible evaluated wholeAt operandsOf nodeAt readNode
+    readTree readTreeEnd tickBy
+contrary = refl
 
 -- one fact, no job, an empty goal
 abbrev table : List ℕ

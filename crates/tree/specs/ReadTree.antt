@@ -7,12 +7,13 @@ use mathlib.Core.List.{List}
 use lib.Dec.{eqb, ltb, leb}
 use lib.ListN.{length, getD}
 use Rattle.base.specs.Bools.{if_then_else_}
-use Rattle.masks.specs.Sets.{within}
 use Rattle.refusal.specs.Checked.{Checked, accepted, refused, andThen}
 use Rattle.commands.specs.declared.Found.{Found}
 use Rattle.commands.specs.declared.Found.the-variants.{Missing, Unknown, Cut, Whole}
-use Rattle.commands.specs.Commands.{FALLBACK, SEQUENCE, CONDITION, JOB-LEAF, END-OF-TREE, OPERANDS-AT, MASK-WIDTH, Past, commandAt}
+use Rattle.commands.specs.Commands.{FALLBACK, SEQUENCE, CONDITION, JOB-LEAF, PAIR, END-OF-TREE, OPERANDS-AT, ABSENT-AT, MASK-WIDTH, Past, commandAt}
 use Rattle.numbers.specs.Numbers.{numberAt}
+use Rattle.conditions.specs.declared.Condition.{Condition as Asked}
+use Rattle.conditions.specs.Condition.{plain, conditionWithin}
 use Rattle.tree.specs.declared.Kind.{Kind}
 use Rattle.tree.specs.declared.Kind.the-variants.{Fallback, Sequence}
 use Rattle.tree.specs.declared.Leaf.{Leaf}
@@ -64,13 +65,21 @@ countAt s at = numberAt countWidth s (at + OPERANDS-AT)
 abbrev pub childCount : Kind → ℕ → ℕ → Checked Node
 childCount kind at n = if leb 1 n && leb n maxChildren then accepted (branch kind n) else refused 13 at
 
+-- "mask, 8"; by W10 "both masks"
+abbrev pub maskAt : List ℕ → ℕ → ℕ
+maskAt s at = numberAt MASK-WIDTH s (at + OPERANDS-AT)
+
+abbrev pub pairAt : List ℕ → ℕ → Asked
+pairAt s at = record { present = maskAt s at; absent = numberAt MASK-WIDTH s (at + ABSENT-AT) }
+
 -- a node's command, and its operands after it
 unfoldable pub operandsOf : List ℕ → ℕ → ℕ → Checked Node
 operandsOf s at byte =
     if eqb byte FALLBACK then childCount Fallback at (countAt s at)
     else if eqb byte SEQUENCE then childCount Sequence at (countAt s at)
-    else if eqb byte CONDITION then accepted (leaf (Condition (numberAt MASK-WIDTH s (at + OPERANDS-AT))))
+    else if eqb byte CONDITION then accepted (leaf (Condition (plain (maskAt s at))))
     else if eqb byte JOB-LEAF then accepted (leaf (Action (getD s (at + OPERANDS-AT) 0)))
+    else if eqb byte PAIR then accepted (leaf (Condition (pairAt s at)))
     else refused 13 at
 
 unfoldable pub nodeAt : List ℕ → ℕ → Checked (Past Node)
@@ -86,7 +95,7 @@ readEnd s t at =
 
 -- 15: "A tree mask has a bit at or above F, or a job number is not below the job count."
 abbrev pub inRange : ℕ → ℕ → Leaf → Bool
-inRange facts jobs (Condition c) = within facts c
+inRange facts jobs (Condition c) = conditionWithin facts c
 inRange facts jobs (Action job) = ltb job jobs
 
 -- a row of one child and n more, each read by `child`

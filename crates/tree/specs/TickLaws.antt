@@ -45,8 +45,8 @@ settled-leaf r s fills (Action job) h = refl
 settled-leaf r s fills (Condition c) h = by-reading (evaluated r c) refl h
   where
     by-reading : (v : Evaluation) → evaluated r c ≡ v → isSettled (statusOf v) ≡ true → statusOf (evaluated (state s) c) ≡ statusOf (evaluated r c)
-    by-reading Met e h = rw (e, met-everywhere r c s fills e)
-    by-reading Missed e h = rw (e, missed-everywhere r c s fills e)
+    by-reading Met e h = rw (e, met-everywhere r s fills c e)
+    by-reading Missed e h = rw (e, missed-everywhere r s fills c e)
     by-reading (Open m) e h = clash h
 
 state-leaf : (s : ℕ) (x : Leaf) → isSettled (leafAnswer (state s) x) ≡ true

@@ -1,12 +1,13 @@
 // Behaviour trees in bytes: a node's command with its operands, with what stop 13 asks of a node by itself, and what a leaf answers (document 01,
 // "Commands", "Ticking" and "Stops, in checking order").
+use conditions::Condition;
 use conditions::Evaluation;
 use reading::Reading;
 ghost use mathlib.Core.Path.{_≡_};
 ghost use Prim.Native.Nat.{_+_, _<_};
 ghost use lib.Dec.{ltb};
 ghost use lib.ListN.{length, getD};
-ghost use Rattle.commands.specs.Commands.{CONDITION, JOB-LEAF};
+ghost use Rattle.commands.specs.Commands.{CONDITION, PAIR, JOB-LEAF};
 ghost use Rattle.tree.specs.ReadTree.{kindByte, nodeAt, nodeReadOf, inRange};
 ghost use Rattle.tree.specs.Tick.{statusOf, leafAnswer};
 
@@ -18,7 +19,7 @@ pub enum Kind {
 
 // A node without children: a condition, or document 01's JOB leaf with the job's number, which the field calls an action.
 pub enum Leaf {
-    Condition(u64),
+    Condition(Condition),
     Action(u8),
 }
 
@@ -77,8 +78,22 @@ fn condition_at(tree: &[u8], at: usize) -> NodeRead
     if is_cut(tree, at, commands::CONDITION_SIZE) {
         return NodeRead::Malformed(at);
     }
-    let leaf = Leaf::Condition(numbers::read_u64(tree, at + commands::OPERANDS_AT));
+    let present = numbers::read_u64(tree, at + commands::OPERANDS_AT);
+    let leaf = Leaf::Condition(Condition { present, absent: 0 });
     NodeRead::Leaf(leaf, at + commands::CONDITION_SIZE)
+}
+
+fn pair_at(tree: &[u8], at: usize) -> NodeRead
+    requires { ⌜ (at < length (now tree)) × (getD (now tree) at 0 ≡ PAIR) ⌝ }
+    ensures { λ r. ⌜ nodeReadOf r ≡ nodeAt (now (tree .entry)) at ⌝ }
+{
+    if is_cut(tree, at, commands::PAIR_SIZE) {
+        return NodeRead::Malformed(at);
+    }
+    let present = numbers::read_u64(tree, at + commands::OPERANDS_AT);
+    let absent = numbers::read_u64(tree, at + commands::ABSENT_AT);
+    let leaf = Leaf::Condition(Condition { present, absent });
+    NodeRead::Leaf(leaf, at + commands::PAIR_SIZE)
 }
 
 fn action_at(tree: &[u8], at: usize) -> NodeRead
@@ -106,6 +121,9 @@ pub fn node_at(tree: &[u8], at: usize) -> NodeRead
     if byte == commands::JOB_LEAF {
         return action_at(tree, at);
     }
+    if byte == commands::PAIR {
+        return pair_at(tree, at);
+    }
     if byte == commands::SEQUENCE {
         return branch_at(tree, at, Kind::Sequence);
     }
@@ -120,7 +138,7 @@ pub fn is_in_range(facts: u8, jobs: usize, leaf: Leaf) -> bool
     ensures { λ r. ⌜ r ≡ inRange facts jobs leaf ⌝ }
 {
     match leaf {
-        Leaf::Condition(c) => masks::is_within(facts, c),
+        Leaf::Condition(c) => conditions::is_within(facts, c),
         Leaf::Action(job) => (job as usize) < jobs,
     }
 }

@@ -8,13 +8,14 @@ use Rattle.flat.proofs.put_first.Statement.{statement}
 use Rattle.flat.proofs.put_first.Tie as tie
 
 put-branch-requires : tie.Need-put-branch-requires
-put-branch-requires c κs = let a = c .before .before .args in omega (arith, first-parts (a .n) (a .condition))
+put-branch-requires c κs = let a = c .before .before .args in omega (arith, first-parts (a .paired) (a .n) (a .condition))
 
 put-condition-requires : tie.Need-put-condition-requires
 put-condition-requires c κs =
     let branch = c .before .before .before in
     let s = branch .before .before .before in
-    omega (arith, branch .put-branch .kept .0, branch .put-branch .ensures .past, first-parts (s .args .n) (s .args .condition), s .pre)
+    let a = s .args in
+    omega (arith, branch .put-branch .kept .0, branch .put-branch .ensures .past, first-parts (a .paired) (a .n) (a .condition), s .pre)
 
 same-length : tie.Need-same-length
 same-length c = search needs

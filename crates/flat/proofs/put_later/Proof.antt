@@ -8,26 +8,28 @@ use Rattle.flat.proofs.put_later.Statement.{statement}
 use Rattle.flat.proofs.put_later.Tie as tie
 
 put-branch-requires : tie.Need-put-branch-requires
-put-branch-requires c κs = let a = c .before .before .args in omega (arith, entry-parts (a .condition) (a .action))
+put-branch-requires c κs = let a = c .before .before .args in omega (arith, entry-parts (a .paired) (a .condition) (a .action))
 
 put-condition-requires : tie.Need-put-condition-requires
 put-condition-requires c κs =
     let branch = c .before .before .before in
     let s = branch .before .before .before in
-    omega (arith, branch .put-branch .kept .0, branch .put-branch .ensures .past, entry-parts (s .args .condition) (s .args .action), s .pre)
+    let a = s .args in
+    omega (arith, branch .put-branch .kept .0, branch .put-branch .ensures .past, entry-parts (a .paired) (a .condition) (a .action), s .pre)
 
 put-action-requires : tie.Need-put-action-requires
 put-action-requires c κs =
     let condition = c .before .before .before in
     let branch = condition .before .before .before .before in
     let s = branch .before .before .before in
+    let a = s .args in
     omega (
       arith,
       branch .put-branch .kept .0,
       branch .put-branch .ensures .past,
       condition .put-condition .kept .0,
       condition .put-condition .ensures .past,
-      entry-parts (s .args .condition) (s .args .action),
+      entry-parts (a .paired) (a .condition) (a .action),
       s .pre,
     )
 

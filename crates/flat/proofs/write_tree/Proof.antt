@@ -1,48 +1,65 @@
 -- `flat::write_tree` meets its contract: entry 0, the others and END are put one after the other, and fill the tree's bytes.
 -- Assumes nothing.
-use Rattle.flat.specs.TreeBytesLaws.{puts-front, tree-room, tree-put}
+use Prim.Native.Nat.{_+_}
+use mathlib.Core.Path.{_≡_}
+use lib.ListN.{length, drop}
 use borrow.Author.Needs.{needs}
 use native.Mathlib.Omega.{arith}
+use Rattle.flat.specs.TreeBytes.{endBytes, firstBytes, laterEntries, treeBytes, treeEntries}
+use Rattle.flat.specs.TreeBytesLaws.{puts-front, tree-room, tree-put}
 use Rattle.flat.proofs.write_tree.Statement.{statement}
 use Rattle.flat.proofs.write_tree.Tie as tie
 
--- what was put of entry 0 and of the others, and the function's entry
-abbrev start-of : tie.After-put-first → tie.Start
-start-of c = c .before .before .before .before .before .before
+-- ---- the places of the walk: the condition of entry 0 is read, it is put, the others are put
+
+abbrev Read : Type 0
+Read = tie.After-condition-at
+
+abbrev start-of : Read → tie.Start
+start-of c = c .before .before .before .before .before
+
+abbrev read-of : tie.After-put-first → Read
+read-of c = c .before .before
 
 abbrev first-of : tie.After-put-entries → tie.After-put-first
 first-of c = c .before .before .before .before
 
+-- the parts of the tree take its bytes
+parts : (c : Read) → let a = start-of c .args in
+    length (treeBytes (a .paired) (treeEntries (a .conditions .now) (a .absences .now) (a .actions .now) (a .n)))
+    ≡ length (firstBytes (a .paired) (a .n) (c .condition-at .result))
+    + length (laterEntries (a .paired) (drop 1 (treeEntries (a .conditions .now) (a .absences .now) (a .actions .now) (a .n)))) + length endBytes
+parts c =
+    let s = start-of c in
+    let a = s .args in
+    tree-room (a .paired) (a .conditions .now) (a .absences .now) (a .actions .now) (a .n) (s .pre .0) (c .condition-at .result) (c .condition-at .ensures)
+
+condition-at-requires : tie.Need-condition-at-requires
+condition-at-requires c κs = search needs
+
 cast-put-first : tie.Need-cast-put-first
 cast-put-first c = search needs
 
-shared-slice-read-put-first : tie.Need-shared-slice-read-put-first
-shared-slice-read-put-first c = search needs
-
 put-first-requires : tie.Need-put-first-requires
-put-first-requires c κs =
-    let s = c .before .before .before .before .before in
-    omega (arith, s .pre, tree-room (s .args .conditions .now) (s .args .actions .now) (s .args .n) (s .pre .0))
+put-first-requires c κs = omega (arith, start-of (c .before) .pre, parts (c .before))
 
 put-entries-requires : tie.Need-put-entries-requires
 put-entries-requires c κs =
     let first = c .before .before .before in
-    let s = start-of first in
-    omega (arith, s .pre, first .put-first .kept .0, first .put-first .ensures .past, tree-room (s .args .conditions .now) (s .args .actions .now) (s .args .n) (s .pre .0))
+    omega (arith, start-of (read-of first) .pre, first .put-first .kept .0, first .put-first .ensures .past, parts (read-of first))
 
 put-end-requires : tie.Need-put-end-requires
 put-end-requires c κs =
     let others = c .before .before .before in
     let first = first-of others in
-    let s = start-of first in
     omega (
       arith,
-      s .pre,
+      start-of (read-of first) .pre,
       first .put-first .kept .0,
       first .put-first .ensures .past,
-      others .put-entries .kept .1 .1 .1 .0,
+      others .put-entries .kept .1 .1 .1 .1 .1 .0,
       others .put-entries .ensures .past,
-      tree-room (s .args .conditions .now) (s .args .actions .now) (s .args .n) (s .pre .0),
+      parts (read-of first),
     )
 
 same-length : tie.Need-same-length
@@ -53,17 +70,19 @@ returns c =
     let end = c .before .before in
     let others = end .before .before .before .before in
     let first = first-of others in
-    let s = start-of first in
+    let s = start-of (read-of first) in
+    let a = s .args in
     puts-front
-    (tree-put (s .args .conditions .now) (s .args .actions .now) (s .args .n) (s .pre .0) (first .put-first .ensures) (others .put-entries .ensures) (end .put-end .ensures))
-    (s .pre .4)
+    (tree-put (a .paired) (a .conditions .now) (a .absences .now) (a .actions .now) (a .n) (s .pre .0)
+    (read-of first .condition-at .ensures) (first .put-first .ensures) (others .put-entries .ensures) (end .put-end .ensures))
+    (s .pre .3)
 
 pub write-tree-spec : {M : Type 1} → statement M
 write-tree-spec =
     tie.close
     (tie.spec
+    condition-at-requires
     cast-put-first
-    shared-slice-read-put-first
     put-first-requires
     put-entries-requires
     put-end-requires

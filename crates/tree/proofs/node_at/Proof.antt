@@ -1,4 +1,4 @@
--- `tree::node_at` meets its contract: what is none of the four commands is no node.
+-- `tree::node_at` meets its contract: what is none of the five commands is no node.
 -- Assumes nothing.
 use Rattle.tree.specs.ReadTreeLaws.{node-missing, node-other}
 use borrow.Author.Needs.{needs}
@@ -23,6 +23,9 @@ action-at-requires c κs = search needs
 returns-3 : tie.Need-returns-3
 returns-3 c = search needs
 
+pair-at-requires : tie.Need-pair-at-requires
+pair-at-requires c κs = search needs
+
 branch-at-requires : tie.Need-branch-at-requires
 branch-at-requires c κs = search needs
 
@@ -36,8 +39,16 @@ returns-5 : tie.Need-returns-5
 returns-5 c = search needs
 
 returns-6 : tie.Need-returns-6
-returns-6 c =
-    node-other _ _ (c .before .before .before .before .before .if1 .left) (c .if5 .left) (c .before .if4 .left) (c .before .before .before .if2 .left) (c .before .before .if3 .left)
+returns-6 c = search needs
+
+-- the tests that failed, from the last to the first
+returns-7 : tie.Need-returns-7
+returns-7 c =
+    let sequence = c .before in
+    let pair = sequence .before in
+    let action = pair .before in
+    let condition = action .before in
+    node-other _ _ (condition .before .before .if1 .left) (c .if6 .left) (sequence .if5 .left) (condition .if2 .left) (action .if3 .left) (pair .if4 .left)
 
 pub node-at-spec : {M : Type 1} → statement M
 node-at-spec =
@@ -49,8 +60,10 @@ node-at-spec =
     returns-2
     action-at-requires
     returns-3
-    branch-at-requires
+    pair-at-requires
     returns-4
-    branch-at-requires-2
+    branch-at-requires
     returns-5
-    returns-6)
+    branch-at-requires-2
+    returns-6
+    returns-7)
