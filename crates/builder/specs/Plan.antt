@@ -1,17 +1,19 @@
 -- Plans, of whatever kind: the list of a table's goal and its tree, and what of them stands in every lent slice: document 01, "Expansion", stops 10
--- to 12.
+-- to 12; document 02, W10.
 -- Definitions only.
 use Prim.Native.Nat.{ℕ}
 use mathlib.Core.Path.{_≡_}
+use mathlib.Core.Bool.{Bool, false}
 use mathlib.Core.List.{List, [], _++_}
 use lib.Dec.{leb}
 use lib.ListN.{length, getD, drop}
 use Rattle.base.specs.Bools.{if_then_else_}
 use Rattle.refusal.specs.Checked.{Checked, accepted, refused, refusedBy}
-use Rattle.conditions.specs.Condition.{Condition}
+use Rattle.conditions.specs.declared.Condition.{Condition}
+use Rattle.conditions.specs.Condition.{plain}
 use Rattle.job.specs.declared.Job.{Job}
 use Rattle.job.specs.Job.{noJob, actionOf}
-use Rattle.table.specs.Table.{Table}
+use Rattle.table.specs.Table.{Table, hasPair}
 use Rattle.planning.specs.Domain.{Domain}
 use Rattle.planning.specs.Expansion.{Entry, Outcome, entries}
 use Rattle.planning.specs.Facts.{Actions, unitDomain, factPlan}
@@ -34,43 +36,50 @@ tableActions t = record { count = length (t .jobs); action = λ a. actionOf (job
 
 -- states are held masks, each job counts as one
 abbrev pub tableDomain : Table → Domain ℕ Condition ℕ
-tableDomain t = unitDomain (tableActions t) (t .goal)
+tableDomain t = unitDomain (tableActions t) (plain (t .goal))
 
--- ---- a plan: its answer, the entries that it stores and the bytes of the tree that it writes
+-- "once the table has a 0x21": its conditions want facts absent, and its tree and list hold both masks
+abbrev pub pairs : Table → Bool
+pairs t = hasPair (t .jobs)
+
+-- ---- a plan: its answer, the entries that it stores, whether with both masks, and the bytes of the tree that it writes
 
 -- an accepted answer tells what the kind of plan has to tell
 pub record Plan (Told : Type 0) : Type 0 where
   pub answer : Checked Told
+  pub paired : Bool
   pub list : List (Entry Condition)
   pub tree : List ℕ
 
 module _ {Told : Type 0} where
   -- nothing is stored, nothing written: "Every other refused call .. writes to nothing that is lent"
   abbrev pub noPlan : ℕ → ℕ → Plan Told
-  noPlan number place = record { answer = refused number place; list = []; tree = [] }
+  noPlan number place = record { answer = refused number place; paired = false; list = []; tree = [] }
 
-  -- a list that is stored, with no tree; "The place is .. the entries stored for 10 to 12."
-  abbrev pub listOnly : ℕ → List (Entry Condition) → Plan Told
-  listOnly number l = record { answer = refused number (length l); list = l; tree = [] }
+  module _ (paired : Bool) where
+    -- a list that is stored, with no tree
+    abbrev pub listOnly : ℕ → ℕ → List (Entry Condition) → Plan Told
+    listOnly number place l = record { answer = refused number place; paired = paired; list = l; tree = [] }
 
-  abbrev pub listAndTree : Told → List (Entry Condition) → Plan Told
-  listAndTree told l = record { answer = accepted told; list = l; tree = treeBytes l }
+    abbrev pub listAndTree : Told → List (Entry Condition) → Plan Told
+    listAndTree told l = record { answer = accepted told; paired = paired; list = l; tree = treeBytes paired l }
 
-  -- a list whose tree is due, where the lent tree has room for so many bytes. 12: "The lent tree is shorter than" the list's tree.
-  abbrev pub withTree : ℕ → Told → List (Entry Condition) → Plan Told
-  withTree room told l = if leb (length (treeBytes l)) room then listAndTree told l else listOnly 12 l
+    -- a list whose tree is due, where the lent tree has room for so many bytes. 12: "The lent tree is shorter than" the list's tree; "The place is ..
+    -- the entries stored for 10 to 12."
+    abbrev pub withTree : ℕ → Told → List (Entry Condition) → Plan Told
+    withTree room told l = if leb (length (treeBytes paired l)) room then listAndTree told l else listOnly 12 (length l) l
 
-  -- a list that ended as was asked, or 10 or 11
-  abbrev pub finishedBy : ℕ → (List (Entry Condition) → Told) → List (Entry Condition) → Checked (List (Entry Condition)) → Plan Told
-  finishedBy room tell l (accepted m) = withTree room (tell m) m
-  finishedBy room tell l (refused number place) = record { answer = refused number place; list = l; tree = [] }
+    -- a list that ended as was asked, or 10 or 11
+    abbrev pub finishedBy : ℕ → (List (Entry Condition) → Told) → List (Entry Condition) → Checked (List (Entry Condition)) → Plan Told
+    finishedBy room tell l (accepted m) = withTree room (tell m) m
+    finishedBy room tell l (refused number place) = listOnly number place l
 
-  abbrev pub planBy : Until → ℕ → (List (Entry Condition) → Told) → Outcome Condition → Plan Told
-  planBy until room tell o = finishedBy room tell (entries o) (listedBy until o)
+    abbrev pub planBy : Until → ℕ → (List (Entry Condition) → Told) → Outcome Condition → Plan Told
+    planBy until room tell o = finishedBy room tell (entries o) (listedBy until o)
 
-  -- the plan of a table that was read, with room for so many entries and so many bytes of a tree
-  unfoldable pub tablePlan : Until → Table → ℕ → ℕ → (List (Entry Condition) → Told) → Plan Told
-  tablePlan until t capacity room tell = planBy until room tell (factPlan (tableActions t) (t .goal) capacity (endedBy until))
+  -- the plan of a table that was read, with room for so many entries, by whether the list is paired, and so many bytes of a tree
+  unfoldable pub tablePlan : Until → Table → (Bool → ℕ) → ℕ → (List (Entry Condition) → Told) → Plan Told
+  tablePlan until t capacity room tell = planBy (pairs t) until room tell (factPlan (tableActions t) (plain (t .goal)) (capacity (pairs t)) (endedBy until))
 
   -- the checks before it first
   abbrev pub afterChecks : Checked Table → (Table → Plan Told) → Plan Told
@@ -78,10 +87,14 @@ module _ {Told : Type 0} where
   afterChecks (refused number place) plan = noPlan number place
 
 -- what every list and its tree have to tell
-abbrev pub sizeOf : List (Entry Condition) → Size
-sizeOf l = record { entries = length l; bytes = length (treeBytes l) }
+abbrev pub sizeOf : Bool → List (Entry Condition) → Size
+sizeOf paired l = record { entries = length l; bytes = length (treeBytes paired l); paired = paired }
 
 -- ---- the answers of the code, in these terms
+
+-- so many second masks, of which a list that is not paired has none
+abbrev pub ifPaired : Bool → ℕ → ℕ
+ifPaired paired n = if paired then n else 0
 
 abbrev pub listedOf : Listed → Checked ℕ
 listedOf (L.Entries n) = accepted n
@@ -101,5 +114,5 @@ module _ {Told : Type 0} where
 
   -- So does the list at the front of the list tables; "all else untouched".
   pub record WritesPlan (P : Plan Told) (before after : Columns) (lent tree : List ℕ) (told : Checked Told) : Type 0 where
-    pub tables : after ≡ written (P .list) before
+    pub tables : after ≡ written (P .paired) (P .list) before
     pub answer-and-tree : WritesTree P lent tree told

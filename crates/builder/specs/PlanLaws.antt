@@ -4,55 +4,60 @@ use Prim.Native.Nat.{ℕ, _+_, _≤_, _<_}
 use native.Mathlib.Omega.{arith}
 use mathlib.Core.Path.{_≡_, refl, sym, ap, _∙_, subst}
 use mathlib.Core.Bool.{Bool, true, false}
-use mathlib.Core.List.{List, [], _++_}
+use mathlib.Core.List.{List, [], _++_, append-nil}
 use mathlib.Core.Logic.{_⊎_, inl, inr}
 use lib.Dec.{leb}
-use lib.ListN.{length, drop}
+use lib.ListN.{length, take, drop, drop-of-length-le}
+use lib.Seq.{take-length}
 use borrow.Author.Tests.{le-leb, lt-leb, leb-false}
 use Rattle.base.specs.Bools.{if_then_else_}
 use Rattle.base.specs.Lists.{length-prefix}
 use Rattle.refusal.specs.Checked.{Checked, accepted, refused, andThen}
 use Rattle.refusal.specs.CheckedLaws.{not-both, accepted-same, accepted-then}
-use Rattle.conditions.specs.Condition.{Condition}
+use Rattle.conditions.specs.declared.Condition.{Condition}
+use Rattle.conditions.specs.Condition.{plain}
 use Rattle.table.specs.Table.{Table}
 use Rattle.planning.specs.Expansion.{Entry, Outcome, exhausted, covered, full, entries}
 use Rattle.planning.specs.Columns.{entryAt}
-use Rattle.planning.specs.Facts.{Actions}
+use Rattle.planning.specs.Facts.{Actions, factPlan}
 use Rattle.expander.specs.declared.Expanded.{Expanded}
 use Rattle.expander.specs.declared.Expanded.the-variants as X
 use Rattle.expander.specs.declared.Until.{Until}
 use Rattle.expander.specs.declared.Until.the-variants as U
-use Rattle.expander.specs.Expands.{Columns, over, written, room, held, planIn, expandedOf, listedBy, Expands}
-use Rattle.expander.specs.ExpandsLaws.{stored, list-held, list-length, held-length, stored-small, exhausted-some, covered-some, over-long}
+use Rattle.expander.specs.Expands.{Columns, columns, capacityOf, Unlent, endedBy, over, written, room, held, planIn, expandedOf, listedBy, Expands}
+use Rattle.expander.specs.ExpandsLaws.{capacity-most, capacity-pairs, stored, list-held, list-length, held-length, stored-small, exhausted-some, covered-some, over-long}
 use Rattle.flat.specs.TreeBytes.{treeBytes, treeEntries}
+use Rattle.flat.specs.FlatTree.{maxEntries}
 use Rattle.flat.specs.FlatTreeLaws.{tree-columns}
 use Rattle.builder.specs.declared.Size.{Size}
-use Rattle.builder.specs.Plan.{tableActions, Plan, noPlan, listOnly, listAndTree, withTree, finishedBy, planBy, tablePlan, sizeOf, WritesTree, WritesPlan}
+use Rattle.builder.specs.Plan.{tableActions, pairs, ifPaired, Plan, noPlan, listOnly, listAndTree, withTree, finishedBy, planBy, tablePlan, sizeOf, WritesTree, WritesPlan}
 
 -- ---- the tree of a list that stands in columns
 
-module _ {Told : Type 0} (l : List (Entry Condition)) (told : Told) (lent tree : List ℕ) (answer : Checked Told) where
+module _ {Told : Type 0} (paired : Bool) (l : List (Entry Condition)) (told : Told) (lent tree : List ℕ) (answer : Checked Told) where
   -- 12: the lent tree is too short, and stays as it is
-  pub tree-short : length lent < length (treeBytes l) → lent ≡ tree → answer ≡ refused 12 (length l)
-      → WritesTree (withTree (length lent) told l) lent tree answer
+  pub tree-short : length lent < length (treeBytes paired l) → lent ≡ tree → answer ≡ refused 12 (length l)
+      → WritesTree (withTree paired (length lent) told l) lent tree answer
   tree-short h same a =
-      rw (lt-leb (length (treeBytes l)) (length lent) h) (record { answer = a; tree-written = sym same })
+      rw (lt-leb (length (treeBytes paired l)) (length lent) h) (record { answer = a; tree-written = sym same })
 
-  pub tree-fits : length (treeBytes l) ≤ length lent → tree ≡ treeBytes l ++ drop (length (treeBytes l)) lent → answer ≡ accepted told
-      → WritesTree (withTree (length lent) told l) lent tree answer
-  tree-fits h written a = rw (le-leb (length (treeBytes l)) (length lent) h) (record { answer = a; tree-written = written })
+  pub tree-fits : length (treeBytes paired l) ≤ length lent → tree ≡ treeBytes paired l ++ drop (length (treeBytes paired l)) lent → answer ≡ accepted told
+      → WritesTree (withTree paired (length lent) told l) lent tree answer
+  tree-fits h written a = rw (le-leb (length (treeBytes paired l)) (length lent) h) (record { answer = a; tree-written = written })
 
-pub sized : {n b : ℕ} (l : List (Entry Condition)) → length l ≡ n → b ≡ length (treeBytes l) → _≡_ {A = Checked Size} (accepted (record { entries = n; bytes = b })) (accepted (sizeOf l))
-sized l e f = rw (← e, f)
+pub sized : {n b : ℕ} (paired : Bool) (l : List (Entry Condition)) → length l ≡ n → b ≡ length (treeBytes paired l)
+    → _≡_ {A = Checked Size} (accepted (record { entries = n; bytes = b; paired = paired })) (accepted (sizeOf paired l))
+sized paired l e f = rw (← e, f)
 
 -- the same tree, of a list that has the same conditions and actions, with another answer
-module _ {Told Other : Type 0} (room : ℕ) (l m : List (Entry Condition)) (sizes : length l ≡ length m) (trees : treeBytes l ≡ treeBytes m)
+module _ {Told Other : Type 0} (paired : Bool) (room : ℕ) (l m : List (Entry Condition)) (sizes : length l ≡ length m)
+    (trees : treeBytes paired l ≡ treeBytes paired m)
     (a : Told) (b : Other) (f : Told → Other) (same : f a ≡ b) (lent tree : List ℕ) (told : Checked Told) where
-  pub retold : WritesTree (withTree room a l) lent tree told → WritesTree (withTree room b m) lent tree (andThen told (λ x. accepted (f x)))
-  retold = rw (← sizes, ← trees) (by-room (leb (length (treeBytes l)) room))
+  pub retold : WritesTree (withTree paired room a l) lent tree told → WritesTree (withTree paired room b m) lent tree (andThen told (λ x. accepted (f x)))
+  retold = rw (← sizes, ← trees) (by-room (leb (length (treeBytes paired l)) room))
     where
-      by-room : (fits : Bool) → WritesTree (if fits then listAndTree a l else listOnly 12 l) lent tree told
-          → WritesTree (if fits then record { answer = accepted b; list = m; tree = treeBytes l } else record { answer = refused 12 (length l); list = m; tree = [] })
+      by-room : (fits : Bool) → WritesTree (if fits then listAndTree paired a l else listOnly paired 12 (length l) l) lent tree told
+          → WritesTree (if fits then record { answer = accepted b; paired = paired; list = m; tree = treeBytes paired l } else listOnly paired 12 (length l) m)
           lent tree (andThen told (λ x. accepted (f x)))
       by-room true W = record { answer = ap (λ (t : Checked Told). andThen t (λ x. accepted (f x))) (W .answer) ∙ ap accepted same; tree-written = W .tree-written }
       by-room false W = record { answer = ap (λ (t : Checked Told). andThen t (λ x. accepted (f x))) (W .answer); tree-written = W .tree-written }
@@ -70,7 +75,7 @@ refused-then : {A B : Type 0} (c : Checked A) (k : A → B) (n p : ℕ) → refu
 refused-then (accepted a) k n p e = absurd (not-both e)
 refused-then (refused m q) k n p e = cc
 
-module _ {A : Actions} {goal : Condition} {until : Until} {before after : Columns} {x : Expanded} (E : Expands A goal until before after x) where
+module _ {paired : Bool} {A : Actions} {goal : Condition} {until : Until} {before after : Columns} {x : Expanded} (E : Expands paired A goal until before after x) where
   -- the list ended as was asked
   module _ (n : ℕ) (e : expandedOf until x ≡ accepted n) where
     pub ended-stored : stored x ≡ n
@@ -83,28 +88,28 @@ module _ {A : Actions} {goal : Condition} {until : Until} {before after : Column
         by-answer (U.Covers start) (X.Covered m) e = accepted-same e
         by-answer U.Never (X.Covered m) e = accepted-same e
 
-    pub ended-listed : listedBy until (planIn before A goal until) ≡ accepted (held after n)
+    pub ended-listed : listedBy until (planIn paired before A goal until) ≡ accepted (held after n)
     ended-listed =
-        let w = accepted-then (listedBy until (planIn before A goal until)) (λ l. accepted (length l)) n (sym (E .answer) ∙ e) in
-        w .1 ∙ ap accepted (listed-entries until (planIn before A goal until) (w .0) (w .1) ∙ sym (list-held E) ∙ ap (held after) ended-stored)
+        let w = accepted-then (listedBy until (planIn paired before A goal until)) (λ l. accepted (length l)) n (sym (E .answer) ∙ e) in
+        w .1 ∙ ap accepted (listed-entries until (planIn paired before A goal until) (w .0) (w .1) ∙ sym (list-held E) ∙ ap (held after) ended-stored)
 
     pub ended-some : 1 ≤ n
     ended-some = by-answer until x E e
       where
-        by-answer : (u : Until) (x : Expanded) → Expands A goal u before after x → expandedOf u x ≡ accepted n → 1 ≤ n
+        by-answer : (u : Until) (x : Expanded) → Expands paired A goal u before after x → expandedOf u x ≡ accepted n → 1 ≤ n
         by-answer u (X.Full m) E e = absurd (not-both e)
         by-answer (U.Covers start) (X.Exhausted m) E e = absurd (not-both e)
         by-answer U.Never (X.Exhausted m) E e = omega (arith, exhausted-some E, accepted-same e)
         by-answer (U.Covers start) (X.Covered m) E e = omega (arith, covered-some E, accepted-same e)
         by-answer U.Never (X.Covered m) E e = omega (arith, covered-some E, accepted-same e)
 
-  pub refused-listed : (n p : ℕ) → expandedOf until x ≡ refused n p → listedBy until (planIn before A goal until) ≡ refused n p
-  refused-listed n p e = refused-then (listedBy until (planIn before A goal until)) length n p (sym e ∙ E .answer)
+  pub refused-listed : (n p : ℕ) → expandedOf until x ≡ refused n p → listedBy until (planIn paired before A goal until) ≡ refused n p
+  refused-listed n p e = refused-then (listedBy until (planIn paired before A goal until)) length n p (sym e ∙ E .answer)
 
   -- ---- the columns are long enough for it
 
-  stands : (field : Entry Condition → ℕ) (xs ys : List ℕ) → xs ≡ over field (entries (planIn before A goal until)) ys → stored x ≤ length xs
-  stands field xs ys e = omega (arith, ap length e, over-long (entries (planIn before A goal until)) field ys, list-length E)
+  stands : (field : Entry Condition → ℕ) (xs ys : List ℕ) → xs ≡ over field (entries (planIn paired before A goal until)) ys → stored x ≤ length xs
+  stands field xs ys e = omega (arith, ap length e, over-long (entries (planIn paired before A goal until)) field ys, list-length E)
 
   pub record Stands (n : ℕ) (t : Columns) : Type 0 where
     pub few : n ≤ 4096
@@ -117,7 +122,7 @@ module _ {A : Actions} {goal : Condition} {until : Until} {before after : Column
   list-stands =
       record {
         few = stored-small E;
-        in-conditions = stands (λ x. x .condition) _ _ (ap (λ (t : Columns). t .conditions) (E .tables));
+        in-conditions = stands (λ x. x .condition .present) _ _ (ap (λ (t : Columns). t .conditions) (E .tables));
         in-actions = stands (λ x. x .action) _ _ (ap (λ (t : Columns). t .actions) (E .tables));
         in-parents = stands (λ x. x .parent) _ _ (ap (λ (t : Columns). t .parents) (E .tables));
         in-depths = stands (λ x. x .depth) _ _ (ap (λ (t : Columns). t .depths) (E .tables));
@@ -125,30 +130,36 @@ module _ {A : Actions} {goal : Condition} {until : Until} {before after : Column
 
 -- ---- the plan of a table
 
-by-room-list : {Told : Type 0} (b : Bool) (told : Told) (l : List (Entry Condition)) → (if b then listAndTree told l else listOnly 12 l) .list ≡ l
-by-room-list true told l = refl
-by-room-list false told l = refl
+module _ {Told : Type 0} (paired : Bool) (tell : List (Entry Condition) → Told) where
+  by-room : (b : Bool) (l : List (Entry Condition)) → let P = if b then listAndTree paired (tell l) l else listOnly paired 12 (length l) l in (P .list ≡ l) × (P .paired ≡ paired)
+  by-room true l = (refl, refl)
+  by-room false l = (refl, refl)
 
-finished-list : {Told : Type 0} (room : ℕ) (tell : List (Entry Condition) → Told) (l : List (Entry Condition)) (c : Checked (List (Entry Condition)))
-    → ((m : List (Entry Condition)) → c ≡ accepted m → m ≡ l) → finishedBy room tell l c .list ≡ l
-finished-list room tell l (accepted m) same = by-room-list (leb (length (treeBytes m)) room) (tell m) m ∙ same m refl
-finished-list room tell l (refused n p) same = refl
+  finished-list : (room : ℕ) (l : List (Entry Condition)) (c : Checked (List (Entry Condition)))
+      → ((m : List (Entry Condition)) → c ≡ accepted m → m ≡ l) → (finishedBy paired room tell l c .list ≡ l) × (finishedBy paired room tell l c .paired ≡ paired)
+  finished-list room l (accepted m) same = let w = by-room (leb (length (treeBytes paired m)) room) m in (w .0 ∙ same m refl, w .1)
+  finished-list room l (refused n p) same = (refl, refl)
 
--- whatever its answer, the list is that of the expansion
-pub plan-list : {Told : Type 0} (until : Until) (room : ℕ) (tell : List (Entry Condition) → Told) (o : Outcome Condition) → planBy until room tell o .list ≡ entries o
-plan-list until room tell o = finished-list room tell (entries o) (listedBy until o) (listed-entries until o)
+  -- whatever its answer, the list is that of the expansion, with both masks where it is paired
+  module _ (until : Until) (room : ℕ) (o : Outcome Condition) where
+    pub plan-list : planBy paired until room tell o .list ≡ entries o
+    plan-list = finished-list room (entries o) (listedBy until o) (listed-entries until o) .0
 
-module _ {Told : Type 0} (t : Table) (until : Until) (before after : Columns) (x : Expanded) (E : Expands (tableActions t) (t .goal) until before after x)
+    pub plan-paired : planBy paired until room tell o .paired ≡ paired
+    plan-paired = finished-list room (entries o) (listedBy until o) (listed-entries until o) .1
+
+module _ {Told : Type 0} (t : Table) (until : Until) (before after : Columns) (x : Expanded)
+    (E : Expands (pairs t) (tableActions t) (plain (t .goal)) until before after x)
     (tell : List (Entry Condition) → Told) (lent : List ℕ) (told : Checked Told) where
   abbrev plan : Plan Told
   plan = tablePlan until t (room before) (length lent) tell
 
   abbrev outcome : Outcome Condition
-  outcome = planIn before (tableActions t) (t .goal) until
+  outcome = planIn (pairs t) before (tableActions t) (plain (t .goal)) until
 
-  tables-are : after ≡ written (plan .list) before
+  tables-are : after ≡ written (plan .paired) (plan .list) before
   unfolding tablePlan
-  tables-are = E .tables ∙ ap (λ (l : List (Entry Condition)). written l before) (sym (plan-list until (length lent) tell outcome))
+  tables-are = E .tables ∙ rw (plan-list (pairs t) tell until (length lent) outcome, plan-paired (pairs t) tell until (length lent) outcome)
 
   -- 10 or 11: no tree is written
   pub writes-list : (n p : ℕ) → expandedOf until x ≡ refused n p → told ≡ refused n p → WritesPlan plan before after lent lent told
@@ -156,120 +167,195 @@ module _ {Told : Type 0} (t : Table) (until : Until) (before after : Columns) (x
   writes-list n p e a =
       record { tables = tables-are; answer-and-tree = rw here (record { answer = a; tree-written = refl }) }
     where
-      here : plan ≡ record { answer = refused n p; list = entries outcome; tree = [] }
-      here = ap (finishedBy (length lent) tell (entries outcome)) (refused-listed E n p e)
+      here : plan ≡ listOnly (pairs t) n p (entries outcome)
+      here = ap (finishedBy (pairs t) (length lent) tell (entries outcome)) (refused-listed E n p e)
 
   writes-tree : (n : ℕ) → expandedOf until x ≡ accepted n → (tree : List ℕ)
-      → WritesTree (withTree (length lent) (tell (held after n)) (held after n)) lent tree told → WritesPlan plan before after lent tree told
+      → WritesTree (withTree (pairs t) (length lent) (tell (held after n)) (held after n)) lent tree told → WritesPlan plan before after lent tree told
   unfolding tablePlan
   writes-tree n e tree W = record { tables = tables-are; answer-and-tree = rw here W }
     where
-      here : plan ≡ withTree (length lent) (tell (held after n)) (held after n)
-      here = ap (finishedBy (length lent) tell (entries outcome)) (ended-listed E n e)
+      here : plan ≡ withTree (pairs t) (length lent) (tell (held after n)) (held after n)
+      here = ap (finishedBy (pairs t) (length lent) tell (entries outcome)) (ended-listed E n e)
+
+-- the entries as far as a tree shows them
+abbrev pub drawn : Columns → ℕ → List (Entry Condition)
+drawn t n = treeEntries (t .conditions) (t .absences) (t .actions) n
 
 -- the tree of the columns' conditions and actions is that of the list
-tree-held : (after : Columns) (n : ℕ) (lent tree : List ℕ) (told : Checked Size)
-    → WritesTree (withTree (length lent) (sizeOf (treeEntries (after .conditions) (after .actions) n)) (treeEntries (after .conditions) (after .actions) n)) lent tree told
-    → WritesTree (withTree (length lent) (sizeOf (held after n)) (held after n)) lent tree told
-tree-held after n lent tree told W =
-    let drawn = treeEntries (after .conditions) (after .actions) n in
-    let sizes : length drawn ≡ length (held after n) = length-prefix (entryAt (after .conditions) (after .actions) [] []) n ∙ sym (held-length after n) in
-    let trees : treeBytes drawn ≡ treeBytes (held after n) = sym (tree-columns (after .conditions) (after .actions) (after .parents) (after .depths) n) in
-    subst (WritesTree (withTree (length lent) (sizeOf (held after n)) (held after n)) lent tree) (as-told told)
-    (retold (length lent) drawn (held after n) sizes trees (sizeOf drawn) (sizeOf (held after n)) (λ x. x) (rw (sizes, trees)) lent tree told W)
+tree-held : (paired : Bool) (after : Columns) (n : ℕ) (lent tree : List ℕ) (told : Checked Size)
+    → WritesTree (withTree paired (length lent) (sizeOf paired (drawn after n)) (drawn after n)) lent tree told
+    → WritesTree (withTree paired (length lent) (sizeOf paired (held after n)) (held after n)) lent tree told
+tree-held paired after n lent tree told W =
+    let shown = drawn after n in
+    let sizes : length shown ≡ length (held after n) = length-prefix (entryAt (after .conditions) (after .absences) (after .actions) [] []) n ∙ sym (held-length after n) in
+    let trees : treeBytes paired shown ≡ treeBytes paired (held after n) =
+    sym (tree-columns paired (after .conditions) (after .absences) (after .actions) (after .parents) (after .depths) n) in
+    subst (WritesTree (withTree paired (length lent) (sizeOf paired (held after n)) (held after n)) lent tree) (as-told told)
+    (retold paired (length lent) shown (held after n) sizes trees (sizeOf paired shown) (sizeOf paired (held after n)) (λ x. x) (rw (sizes, trees)) lent tree told W)
   where
     as-told : (c : Checked Size) → andThen c (λ x. accepted x) ≡ c
     as-told (accepted s) = refl
     as-told (refused n p) = refl
 
 -- the list ended as was asked, and the tree of its columns is written where it fits
-pub writes-built : (t : Table) (until : Until) (before after : Columns) (x : Expanded) (E : Expands (tableActions t) (t .goal) until before after x)
+pub writes-built : (t : Table) (until : Until) (before after : Columns) (x : Expanded)
+    (E : Expands (pairs t) (tableActions t) (plain (t .goal)) until before after x)
     (lent : List ℕ) (told : Checked Size) (n : ℕ) → expandedOf until x ≡ accepted n → (tree : List ℕ)
-    → WritesTree (withTree (length lent) (sizeOf (treeEntries (after .conditions) (after .actions) n)) (treeEntries (after .conditions) (after .actions) n)) lent tree told
-    → WritesPlan (tablePlan until t (room before) (length lent) sizeOf) before after lent tree told
+    → WritesTree (withTree (pairs t) (length lent) (sizeOf (pairs t) (drawn after n)) (drawn after n)) lent tree told
+    → WritesPlan (tablePlan until t (room before) (length lent) (sizeOf (pairs t))) before after lent tree told
 writes-built t until before after x E lent told n e tree W =
-    writes-tree t until before after x E sizeOf lent told n e tree (tree-held after n lent tree told W)
+    writes-tree t until before after x E (sizeOf (pairs t)) lent told n e tree (tree-held (pairs t) after n lent tree told W)
 
 -- ---- what the answer of a plan tells
 
-module _ {Told : Type 0} (until : Until) (room : ℕ) (tell : List (Entry Condition) → Told) (o : Outcome Condition) where
+module _ {Told : Type 0} (paired : Bool) (until : Until) (room : ℕ) (tell : List (Entry Condition) → Told) (o : Outcome Condition) where
   -- an accepted answer: its list, which ended as was asked, and whose tree fits
   pub record Whole (p : Told) : Type 0 where
     pub list : List (Entry Condition)
     pub listed : listedBy until o ≡ accepted list
-    pub plan-is : planBy until room tell o ≡ listAndTree (tell list) list
+    pub plan-is : planBy paired until room tell o ≡ listAndTree paired (tell list) list
     pub told-is : p ≡ tell list
 
-  tree-told : (fits : Bool) (l : List (Entry Condition)) (p : Told) → (if fits then listAndTree (tell l) l else listOnly 12 l) .answer ≡ accepted p
-      → ((if fits then listAndTree (tell l) l else listOnly 12 l) ≡ listAndTree (tell l) l) × (p ≡ tell l)
+  tree-told : (fits : Bool) (l : List (Entry Condition)) (p : Told) → (if fits then listAndTree paired (tell l) l else listOnly paired 12 (length l) l) .answer ≡ accepted p
+      → ((if fits then listAndTree paired (tell l) l else listOnly paired 12 (length l) l) ≡ listAndTree paired (tell l) l) × (p ≡ tell l)
   tree-told true l p a = (refl, sym (accepted-same a))
   tree-told false l p a = absurd (not-both a)
 
-  pub whole-told : (p : Told) → planBy until room tell o .answer ≡ accepted p → Whole p
+  pub whole-told : (p : Told) → planBy paired until room tell o .answer ≡ accepted p → Whole p
   whole-told p a = by-end (listedBy until o) refl a
     where
-      by-end : (c : Checked (List (Entry Condition))) → listedBy until o ≡ c → finishedBy room tell (entries o) c .answer ≡ accepted p → Whole p
+      by-end : (c : Checked (List (Entry Condition))) → listedBy until o ≡ c → finishedBy paired room tell (entries o) c .answer ≡ accepted p → Whole p
       by-end (accepted l) e a =
-          let w = tree-told (leb (length (treeBytes l)) room) l p a in
-          record { list = l; listed = e; plan-is = ap (finishedBy room tell (entries o)) e ∙ w .0; told-is = w .1 }
+          let w = tree-told (leb (length (treeBytes paired l)) room) l p a in
+          record { list = l; listed = e; plan-is = ap (finishedBy paired room tell (entries o)) e ∙ w .0; told-is = w .1 }
       by-end (refused n q) e a = absurd (not-both a)
 
   -- a refusal: the list did not end as was asked, or its tree does not fit
   abbrev pub Unfinished : ℕ → ℕ → Type 0
   Unfinished n p =
-      (listedBy until o ≡ refused n p) ⊎ ((l : List (Entry Condition)) × (listedBy until o ≡ accepted l) × (n ≡ 12) × (p ≡ length l) × (room < length (treeBytes l)))
+      (listedBy until o ≡ refused n p) ⊎ ((l : List (Entry Condition)) × (listedBy until o ≡ accepted l) × (n ≡ 12) × (p ≡ length l) × (room < length (treeBytes paired l)))
 
-  pub refused-told : (n p : ℕ) → planBy until room tell o .answer ≡ refused n p → Unfinished n p
+  pub refused-told : (n p : ℕ) → planBy paired until room tell o .answer ≡ refused n p → Unfinished n p
   refused-told n p a = by-end (listedBy until o) refl a
     where
-      by-room : (l : List (Entry Condition)) → listedBy until o ≡ accepted l → (fits : Bool) → leb (length (treeBytes l)) room ≡ fits
-          → (if fits then listAndTree (tell l) l else listOnly 12 l) .answer ≡ refused n p → Unfinished n p
+      by-room : (l : List (Entry Condition)) → listedBy until o ≡ accepted l → (fits : Bool) → leb (length (treeBytes paired l)) room ≡ fits
+          → (if fits then listAndTree paired (tell l) l else listOnly paired 12 (length l) l) .answer ≡ refused n p → Unfinished n p
       by-room l e true f a = absurd (not-both (sym a))
       by-room l e false f a = inr (l, e, cc, cc, omega (arith, leb-false, f))
 
-      by-end : (c : Checked (List (Entry Condition))) → listedBy until o ≡ c → finishedBy room tell (entries o) c .answer ≡ refused n p → Unfinished n p
-      by-end (accepted l) e a = by-room l e (leb (length (treeBytes l)) room) refl a
+      by-end : (c : Checked (List (Entry Condition))) → listedBy until o ≡ c → finishedBy paired room tell (entries o) c .answer ≡ refused n p → Unfinished n p
+      by-end (accepted l) e a = by-room l e (leb (length (treeBytes paired l)) room) refl a
       by-end (refused m q) e a = let x : m ≡ n = cc in let y : q ≡ p = cc in inl (rw (x, y) at e)
 
 -- A plan that tells something else of the same list leaves the same in every lent slice.
-module _ {Told Other : Type 0} (until : Until) (room : ℕ) (tell : List (Entry Condition) → Told) (other : List (Entry Condition) → Other)
+module _ {Told Other : Type 0} (paired : Bool) (until : Until) (room : ℕ) (tell : List (Entry Condition) → Told) (other : List (Entry Condition) → Other)
     (o : Outcome Condition) (before after : Columns) (lent tree : List ℕ) where
-  pub writes-other : (p : Told) (q : Other) → WritesPlan (planBy until room tell o) before after lent tree (accepted p)
-      → ((l : List (Entry Condition)) → p ≡ tell l → l ≡ entries o → q ≡ other l) → WritesPlan (planBy until room other o) before after lent tree (accepted q)
+  pub writes-other : (p : Told) (q : Other) → WritesPlan (planBy paired until room tell o) before after lent tree (accepted p)
+      → ((l : List (Entry Condition)) → p ≡ tell l → l ≡ entries o → q ≡ other l) → WritesPlan (planBy paired until room other o) before after lent tree (accepted q)
   writes-other p q W same =
-      let w = whole-told until room tell o p (sym (W .answer-and-tree .answer)) in
-      let fits : withTree room (tell (w .list)) (w .list) ≡ listAndTree (tell (w .list)) (w .list) =
-      sym (ap (finishedBy room tell (entries o)) (w .listed)) ∙ w .plan-is in
-      let here : planBy until room other o ≡ listAndTree (other (w .list)) (w .list) =
-      ap (finishedBy room other (entries o)) (w .listed) ∙ by-room (leb (length (treeBytes (w .list))) room) (w .list) (ap (λ (P : Plan Told). P .answer) fits) in
+      let w = whole-told paired until room tell o p (sym (W .answer-and-tree .answer)) in
+      let fits : withTree paired room (tell (w .list)) (w .list) ≡ listAndTree paired (tell (w .list)) (w .list) =
+      sym (ap (finishedBy paired room tell (entries o)) (w .listed)) ∙ w .plan-is in
+      let here : planBy paired until room other o ≡ listAndTree paired (other (w .list)) (w .list) =
+      ap (finishedBy paired room other (entries o)) (w .listed) ∙ by-fit (leb (length (treeBytes paired (w .list))) room) (w .list) (ap (λ (P : Plan Told). P .answer) fits) in
       rw here (record {
-        tables = W .tables ∙ ap (λ (P : Plan Told). written (P .list) before) (w .plan-is);
+        tables = W .tables ∙ ap (λ (P : Plan Told). written (P .paired) (P .list) before) (w .plan-is);
         answer-and-tree = record {
           answer = ap accepted (same (w .list) (w .told-is) (listed-entries until o (w .list) (w .listed)));
           tree-written = W .answer-and-tree .tree-written ∙ ap (λ (P : Plan Told). P .tree ++ drop (length (P .tree)) lent) (w .plan-is);
         };
       })
     where
-      by-room : (fits : Bool) (l : List (Entry Condition)) → (if fits then listAndTree (tell l) l else listOnly 12 l) .answer ≡ accepted (tell l)
-          → (if fits then listAndTree (other l) l else listOnly 12 l) ≡ listAndTree (other l) l
-      by-room true l a = refl
-      by-room false l a = absurd (not-both a)
+      by-fit : (fits : Bool) (l : List (Entry Condition)) → (if fits then listAndTree paired (tell l) l else listOnly paired 12 (length l) l) .answer ≡ accepted (tell l)
+          → (if fits then listAndTree paired (other l) l else listOnly paired 12 (length l) l) ≡ listAndTree paired (other l) l
+      by-fit true l a = refl
+      by-fit false l a = absurd (not-both a)
 
-  pub writes-refused : (n p : ℕ) → WritesPlan (planBy until room tell o) before after lent tree (refused n p)
-      → WritesPlan (planBy until room other o) before after lent tree (refused n p)
+  pub writes-refused : (n p : ℕ) → WritesPlan (planBy paired until room tell o) before after lent tree (refused n p)
+      → WritesPlan (planBy paired until room other o) before after lent tree (refused n p)
   writes-refused n p W = by-end (listedBy until o) W
     where
-      by-room : (fits : Bool) (l : List (Entry Condition)) → WritesPlan (if fits then listAndTree (tell l) l else listOnly 12 l) before after lent tree (refused n p)
-          → WritesPlan (if fits then listAndTree (other l) l else listOnly 12 l) before after lent tree (refused n p)
-      by-room true l W = absurd (not-both (W .answer-and-tree .answer))
-      by-room false l W = record { tables = W .tables; answer-and-tree = record { answer = cc (W .answer-and-tree .answer); tree-written = W .answer-and-tree .tree-written } }
+      by-fit : (fits : Bool) (l : List (Entry Condition)) → WritesPlan (if fits then listAndTree paired (tell l) l else listOnly paired 12 (length l) l) before after lent tree (refused n p)
+          → WritesPlan (if fits then listAndTree paired (other l) l else listOnly paired 12 (length l) l) before after lent tree (refused n p)
+      by-fit true l W = absurd (not-both (W .answer-and-tree .answer))
+      by-fit false l W = record { tables = W .tables; answer-and-tree = record { answer = cc (W .answer-and-tree .answer); tree-written = W .answer-and-tree .tree-written } }
 
-      by-end : (c : Checked (List (Entry Condition))) → WritesPlan (finishedBy room tell (entries o) c) before after lent tree (refused n p)
-          → WritesPlan (finishedBy room other (entries o) c) before after lent tree (refused n p)
-      by-end (accepted l) W = by-room (leb (length (treeBytes l)) room) l W
+      by-end : (c : Checked (List (Entry Condition))) → WritesPlan (finishedBy paired room tell (entries o) c) before after lent tree (refused n p)
+          → WritesPlan (finishedBy paired room other (entries o) c) before after lent tree (refused n p)
+      by-end (accepted l) W = by-fit (leb (length (treeBytes paired l)) room) l W
       by-end (refused m q) W = record { tables = W .tables; answer-and-tree = record { answer = cc (W .answer-and-tree .answer); tree-written = W .answer-and-tree .tree-written } }
 
 -- nothing is written
 pub writes-nothing : {Told : Type 0} (n p : ℕ) (before : Columns) (lent : List ℕ) (told : Checked Told) → told ≡ refused n p
     → WritesPlan (noPlan n p) before before lent lent told
 writes-nothing n p before lent told a = record { tables = refl; answer-and-tree = record { answer = a; tree-written = refl } }
+
+-- ---- the tables' capacity is the papers'
+
+pub columns-few : (before : Columns) (paired : Bool) → room before paired ≤ maxEntries paired
+columns-few t true = capacity-pairs (length (t .conditions)) (length (t .absences)) (length (t .actions)) (length (t .parents)) (length (t .depths)) true tt
+columns-few t false = capacity-most (length (t .conditions)) (length (t .absences)) (length (t .actions)) (length (t .parents)) (length (t .depths)) false
+
+-- ---- a plan in tables of which the further one is lent as far as the list needs it
+
+-- a list that is not paired is lent none of it
+pub cut-unlent : (paired : Bool) (used : ℕ) (absences : List ℕ) → used ≡ ifPaired paired (length absences) → Unlent paired (take used absences)
+cut-unlent true used absences e t = absurd t
+cut-unlent false used absences e t = rw e
+
+module _ (conditions absences actions parents depths : List ℕ) where
+  abbrev whole : Columns
+  whole = columns conditions absences actions parents depths
+
+  abbrev cut : Bool → Columns
+  cut paired = columns conditions (take (ifPaired paired (length absences)) absences) actions parents depths
+
+  room-cut : (paired : Bool) → room (cut paired) paired ≡ room whole paired
+  unfolding capacityOf
+  room-cut true = rw take-length
+  room-cut false = refl
+
+  plan-cut : {Told : Type 0} (until : Until) (t : Table) (space : ℕ) (tell : List (Entry Condition) → Told)
+      → tablePlan until t (room (cut (pairs t))) space tell ≡ tablePlan until t (room whole) space tell
+  unfolding tablePlan
+  plan-cut until t space tell = ap (λ (n : ℕ). planBy (pairs t) until space tell (factPlan (tableActions t) (plain (t .goal)) n (endedBy until))) (room-cut (pairs t))
+
+  -- what is not lent stays as it is
+  module _ {Told : Type 0} (P : Plan Told) (after lent tree : List ℕ) (told : Checked Told) (conditions′ absences′ actions′ parents′ depths′ : List ℕ) where
+    writes-cut : (paired : Bool) → P .paired ≡ paired → WritesPlan P (cut paired) (columns conditions′ after actions′ parents′ depths′) lent tree told
+        → absences′ ≡ after ++ drop (ifPaired paired (length absences)) absences
+        → WritesPlan P whole (columns conditions′ absences′ actions′ parents′ depths′) lent tree told
+    writes-cut true e W q =
+        let none : drop (length absences) absences ≡ [] = drop-of-length-le absences {i = length absences} (omega arith) in
+        let same : absences′ ≡ after = q ∙ rw (none, append-nil) in
+        record {
+          tables = ap (λ (xs : List ℕ). columns conditions′ xs actions′ parents′ depths′) same ∙ W .tables
+              ∙ ap (λ (xs : List ℕ). written (P .paired) (P .list) (columns conditions xs actions parents depths)) (take-length absences);
+          answer-and-tree = W .answer-and-tree;
+        }
+    writes-cut false e W q =
+        let w = rw e at (W .tables) in
+        let kept : absences′ ≡ absences = q ∙ ap (λ (xs : List ℕ). xs ++ absences) (ap (λ (t : Columns). t .absences) w) in
+        record {
+          tables = rw e (λ i. columns (w i .conditions) (kept i) (w i .actions) (w i .parents) (w i .depths));
+          answer-and-tree = W .answer-and-tree;
+        }
+
+  module _ {Told : Type 0} (until : Until) (t : Table) (tell : List (Entry Condition) → Told) (after lent tree : List ℕ) (told : Checked Told)
+      (conditions′ absences′ actions′ parents′ depths′ : List ℕ) where
+    abbrev planned : Columns → Plan Told
+    planned lists = tablePlan until t (room lists) (length lent) tell
+
+    its-paired : planned whole .paired ≡ pairs t
+    unfolding tablePlan
+    its-paired = plan-paired (pairs t) tell until (length lent) (planIn (pairs t) whole (tableActions t) (plain (t .goal)) until)
+
+    pub writes-lent : (used : ℕ) → used ≡ ifPaired (pairs t) (length absences)
+        → (let lists = columns conditions (take used absences) actions parents depths in
+        WritesPlan (planned lists) lists (columns conditions′ after actions′ parents′ depths′) lent tree told)
+        → absences′ ≡ after ++ drop used absences → WritesPlan (planned whole) whole (columns conditions′ absences′ actions′ parents′ depths′) lent tree told
+    writes-lent used u W q =
+        writes-cut (planned whole) after lent tree told conditions′ absences′ actions′ parents′ depths′ (pairs t) its-paired
+        (subst (λ (P : Plan Told). WritesPlan P (cut (pairs t)) (columns conditions′ after actions′ parents′ depths′) lent tree told)
+        (plan-cut until t (length lent) tell) (rw u at W)) (rw u at q)

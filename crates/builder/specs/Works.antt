@@ -2,7 +2,7 @@
 -- Definitions only; WorksLaws.antt shows that every plan's do.
 use Prim.Native.Nat.{ℕ, _<_}
 use mathlib.Core.Path.{_≡_}
-use mathlib.Core.Bool.{true}
+use mathlib.Core.Bool.{Bool, true, false}
 use mathlib.Core.List.{List}
 use mathlib.Core.Logic.{_↔_, _⊎_}
 use lib.Dec.{T}
@@ -11,7 +11,8 @@ use Rattle.masks.specs.Sets.{within}
 use Rattle.refusal.specs.Checked.{accepted}
 use Rattle.reading.specs.declared.Reading.{Reading}
 use Rattle.reading.specs.Reading.{sound, Completes, state}
-use Rattle.conditions.specs.Condition.{Condition, needed}
+use Rattle.conditions.specs.declared.Condition.{Condition}
+use Rattle.conditions.specs.Condition.{needed}
 use Rattle.conditions.specs.OnReading.{Confirmed}
 use Rattle.job.specs.Job.{actionOf}
 use Rattle.table.specs.Table.{Table}
@@ -22,7 +23,7 @@ use Rattle.planning.specs.Expansion.{Entry}
 use Rattle.planning.specs.Demand.{CoveredBy, FirstIn, Fewest}
 use Rattle.flat.specs.TreeBytes.{treeBytes}
 use Rattle.runs.specs.Runs.{tickOn}
-use Rattle.builder.specs.Plan.{jobOf, tableDomain}
+use Rattle.builder.specs.Plan.{jobOf, tableDomain, pairs}
 
 -- ---- one tick, on the tree of a list, at a reading that is sound
 
@@ -30,7 +31,7 @@ pub record Ticks (t : Table) (table tree : List ℕ) (r : Reading) : Type 0 wher
   -- no tick is refused
   pub answer : Verdict
   pub is-answer : tickBytes table tree r ≡ accepted answer
-  -- a job is handed out only where all that it needs is read and held
+  -- a job is handed out only where all that it needs is read and held, and all that it needs absent read and absent
   pub needs-held : (job : ℕ) → answer .answer ≡ Running job → (job < length (t .jobs)) × Confirmed r (needed (actionOf (jobOf t job)))
   -- it stops as unsettled only where two ways of filling in the unread facts differ, in the answer or in the leaf that decides
   pub unsettled : (m : ℕ) → answer .answer ≡ Unsettled m
@@ -50,12 +51,13 @@ pub record Works (Best : ℕ → Type 0) (t : Table) (table : List ℕ) (list : 
 abbrev pub FewestJobs : Table → List ℕ → List (Entry Condition) → List ℕ → Type 0
 FewestJobs t table list tree = Works (Fewest (tableDomain t) (tickOn table tree) list) t table list tree
 
--- document 02, W2: "each entry must be the first one met in at least one state". An entry that is not is a dead line there.
+-- document 02, W2: "each entry must be the first one met in at least one state". An entry that is not is a dead line there; W10: "absence of dead lines
+-- .. for tables without 0x21".
 abbrev pub Irredundant : Table → List (Entry Condition) → Type 0
-Irredundant t list = (i : ℕ) → i < length list → (s : ℕ) × T (within (t .facts) s) × FirstIn (tableDomain t) list s i
+Irredundant t list = pairs t ≡ false → (i : ℕ) → i < length list → (s : ℕ) × T (within (t .facts) s) × FirstIn (tableDomain t) list s i
 
 -- The stops that any plan may meet once the checks are passed: 10 where as many entries as the capacity are stored, 12 where the lent tree has
 -- less room than the list's tree needs.
-abbrev pub NoRoom : ℕ → ℕ → List (Entry Condition) → ℕ → ℕ → Type 0
-NoRoom capacity room list number place =
-    ((number ≡ 10) × (place ≡ capacity)) ⊎ ((number ≡ 12) × (place ≡ length list) × (room < length (treeBytes list)))
+abbrev pub NoRoom : Bool → ℕ → ℕ → List (Entry Condition) → ℕ → ℕ → Type 0
+NoRoom paired capacity room list number place =
+    ((number ≡ 10) × (place ≡ capacity)) ⊎ ((number ≡ 12) × (place ≡ length list) × (room < length (treeBytes paired list)))

@@ -3,24 +3,27 @@
 use Prim.Native.Nat.{ℕ, suc, _≤_, _<_}
 use native.Mathlib.Omega.{arith}
 use mathlib.Core.Path.{_≡_, refl, sym, ap, _∙_, subst}
-use mathlib.Core.Bool.{true, not}
+use mathlib.Core.Bool.{Bool, true, false, not}
 use mathlib.Core.List.{List, [], _∷_}
 use mathlib.Core.Logic.{_↔_, _⊎_, inl, inr, ⊎-elim}
 use lib.Dec.{T, leb, leb→le}
 use lib.ListN.{length}
-use Rattle.base.specs.Bools.{holds, is-true, and-right}
+use Rattle.base.specs.Bools.{holds, is-true, and-intro, and-right}
 use Rattle.masks.specs.Sets.{intersects, within}
+use Rattle.masks.specs.Laws.{within-empty}
 use Rattle.refusal.specs.Checked.{accepted, refused}
 use Rattle.refusal.specs.CheckedLaws.{not-both, accepted-same}
 use Rattle.reading.specs.declared.Reading.{Reading}
 use Rattle.reading.specs.Reading.{sound, Completes, state}
 use Rattle.reading.specs.ReadingLaws.{sound-apart, completes-within, state-sound}
-use Rattle.conditions.specs.Condition.{Condition, needed, conditionWithin}
+use Rattle.conditions.specs.declared.Condition.{Condition}
+use Rattle.conditions.specs.Condition.{plain, consistent, needed, conditionWithin}
+use Rattle.conditions.specs.ConditionLaws.{plain-consistent}
 use Rattle.conditions.specs.OnReading.{Confirmed}
 use Rattle.conditions.specs.OnReadingLaws.{regressed-confirmed}
 use Rattle.numbers.specs.Numbers.{AreBytes}
 use Rattle.job.specs.Job.{actionOf}
-use Rattle.job.specs.ValidationLaws.{action-within}
+use Rattle.job.specs.ValidationLaws.{action-within, effects-separate}
 use Rattle.table.specs.Table.{Table}
 use Rattle.table.specs.Read.{readTable}
 use Rattle.table.specs.RoundTripLaws.{read-sound}
@@ -29,52 +32,54 @@ use Rattle.planning.specs.Listing.{Good}
 use Rattle.planning.specs.Expansion.{Entry, Outcome, exhausted, covered, full, entries, root, entryIn, listing}
 use Rattle.planning.specs.Demand.{CoveredBy, tickList, Fewest}
 use Rattle.planning.specs.DemandLaws.{planned-fits, planned-full, planned-good, planned-action}
-use Rattle.planning.specs.Facts.{Actions, unitDomain, factPlan, WithinFacts}
-use Rattle.planning.specs.FactLaws.{fact-plannable, fact-fewest-by, fact-irredundant, condition-within}
+use Rattle.planning.specs.Facts.{Actions, unitDomain, factPlan, Separate, Plain, WithinFacts}
+use Rattle.planning.specs.FactLaws.{fact-plannable, fact-fewest-by, fact-irredundant, condition-within, consistent-conditions, plain-conditions}
 use Rattle.tree.specs.declared.Status.the-variants.{Failure, Running, Unsettled}
 use Rattle.tree.specs.Tick.{tickTree}
 use Rattle.tree.specs.TickBytes.{tickBytes, answered}
 use Rattle.runs.specs.Runs.{answerOfStatus, runAnswer, tickOn}
 use Rattle.flat.specs.TreeBytes.{treeBytes}
-use Rattle.flat.specs.FlatTree.{Fits, treeOf}
+use Rattle.flat.specs.FlatTree.{maxEntries, Each, Fits, treeOf}
 use Rattle.flat.specs.FlatTreeLaws.{each-by-place, later-by-place}
 use Rattle.flat.specs.ReadBackLaws.{tick-read}
 use Rattle.flat.specs.FlatTickLaws.{tick-agrees, unsettled-differ, action-named, failure-iff}
 use Rattle.expander.specs.declared.Until.{Until}
 use Rattle.expander.specs.declared.Until.the-variants as U
 use Rattle.expander.specs.Expands.{endedBy, listedBy}
-use Rattle.builder.specs.Plan.{jobOf, tableActions, tableDomain, planBy}
+use Rattle.builder.specs.Plan.{jobOf, tableActions, tableDomain, pairs, planBy}
 use Rattle.builder.specs.PlanLaws.{listed-entries, plan-list, refused-told}
+use Rattle.builder.specs.RowLaws.{no-absent}
 use Rattle.builder.specs.Works.{Ticks, FewestJobs, Irredundant, NoRoom}
 
 -- ---- the tick of a list's tree, where the list has at least an entry
 
-module _ (A : Actions) (goal : Condition) where
+module _ (paired : Bool) (A : Actions) (goal : Condition) where
   abbrev F : Domain ℕ Condition ℕ
   F = unitDomain A goal
 
-  list-agrees : (l : List (Entry Condition)) (s : ℕ) → 1 ≤ length l → answerOfStatus (tickTree (state s) (treeOf l) .answer) ≡ tickList F l s
+  list-agrees : (l : List (Entry Condition)) (s : ℕ) → 1 ≤ length l → answerOfStatus (tickTree (state s) (treeOf paired l) .answer) ≡ tickList F l s
   list-agrees [] s h = absurd (omega arith)
-  list-agrees (x ∷ l) s h = tick-agrees F (λ s c. refl) s x l
+  list-agrees (x ∷ l) s h = tick-agrees paired F (λ s c. refl) s x l
 
   -- the job that is named is that of a later entry, whose condition is read and held
-  list-named : (l : List (Entry Condition)) (r : Reading) (job : ℕ) → 1 ≤ length l → tickTree r (treeOf l) .answer ≡ Running job
+  list-named : (l : List (Entry Condition)) (r : Reading) (job : ℕ) → 1 ≤ length l → tickTree r (treeOf paired l) .answer ≡ Running job
       → (i : ℕ) × (suc i < length l) × (entryIn F l (suc i) .action ≡ job) × Confirmed r (entryIn F l (suc i) .condition)
   list-named [] r job h e = absurd (omega arith)
   list-named (x ∷ l) r job h e =
-      let n = action-named (root F) r x l job e in
+      let n = action-named paired (root F) r x l job e in
       (n .at, omega (arith, n .inside), n .is-action, n .confirmed)
 
-  list-fails : (l : List (Entry Condition)) (s : ℕ) → 1 ≤ length l → (tickTree (state s) (treeOf l) .answer ≡ Failure) ↔ (CoveredBy F l s → ⊥)
+  list-fails : (l : List (Entry Condition)) (s : ℕ) → 1 ≤ length l → (tickTree (state s) (treeOf paired l) .answer ≡ Failure) ↔ (CoveredBy F l s → ⊥)
   list-fails [] s h = absurd (omega arith)
   list-fails (x ∷ l) s h =
-      let f = failure-iff (root F) s x l in
+      let f = failure-iff paired (root F) s x l in
       ((λ e c. f .0 e (c .at) (c .inside) (c .met)), (λ n. f .1 (λ i k m. n (record { at = i; inside = k; met = m }))))
 
-list-differ : (l : List (Entry Condition)) (r : Reading) (m : ℕ) → T (not (intersects (r .held) (r .unread))) → 1 ≤ length l → tickTree r (treeOf l) .answer ≡ Unsettled m
-    → (s u : ℕ) × Completes r s × Completes r u × (tickTree (state s) (treeOf l) ≡ tickTree (state u) (treeOf l) → ⊥)
-list-differ [] r m d h e = absurd (omega arith)
-list-differ (x ∷ l) r m d h e = unsettled-differ r d x l m e
+list-differ : (paired : Bool) (l : List (Entry Condition)) (r : Reading) (m : ℕ) → T (not (intersects (r .held) (r .unread)))
+    → Each (λ x. T (consistent (x .condition))) l → 1 ≤ length l → tickTree r (treeOf paired l) .answer ≡ Unsettled m
+    → (s u : ℕ) × Completes r s × Completes r u × (tickTree (state s) (treeOf paired l) ≡ tickTree (state u) (treeOf paired l) → ⊥)
+list-differ paired [] r m d one-way h e = absurd (omega arith)
+list-differ paired (x ∷ l) r m d one-way h e = unsettled-differ paired r d x l m one-way e
 
 -- ---- a table that was read, whatever ends its list
 
@@ -85,73 +90,96 @@ module _ (table : List ℕ) (b : AreBytes table) (t : Table) (e : readTable tabl
   abbrev D : Domain ℕ Condition ℕ
   D = tableDomain t
 
-  within-facts : WithinFacts (t .facts) A (t .goal)
+  abbrev goal : Condition
+  goal = plain (t .goal)
+
+  abbrev paired : Bool
+  paired = pairs t
+
+  within-facts : WithinFacts (t .facts) A goal
   within-facts =
       let S = read-sound table b t e in
-      record { goal-within = holds _ (S .sound-goal); actions-within = λ a h. action-within (S .sound-jobs a h) }
+      record {
+        goal-within = and-intro (within (t .facts) (t .goal)) _ (holds _ (S .sound-goal)) (within-empty (t .facts));
+        actions-within = λ a h. action-within (S .sound-jobs a h);
+      }
+
+  -- number 6
+  pub separate : Separate A
+  separate a h = effects-separate (read-sound table b t e .sound-jobs a h)
+
+  nothing-absent : paired ≡ false → Plain A goal
+  nothing-absent none = record { goal-plain = refl; actions-plain = λ a h. no-absent table b t e none a }
 
   -- each entry is the first one met in the state that holds just its condition
-  pub list-irredundant : Irredundant t (entries (factPlan A (t .goal) capacity (endedBy until)))
-  list-irredundant = fact-irredundant A (t .goal) capacity (endedBy until) (t .facts) within-facts
+  pub list-irredundant : Irredundant t (entries (factPlan A goal capacity (endedBy until)))
+  list-irredundant none = fact-irredundant A goal capacity (endedBy until) (t .facts) within-facts (nothing-absent none)
 
   -- a list whose tree is written
 
-  module _ (few : capacity ≤ 4096) (l : List (Entry Condition)) (some : 1 ≤ length l) (q : entries (factPlan A (t .goal) capacity (endedBy until)) ≡ l) where
+  module _ (few : capacity ≤ maxEntries paired) (l : List (Entry Condition)) (some : 1 ≤ length l) (q : entries (factPlan A goal capacity (endedBy until)) ≡ l) where
     -- what is known of every plan's list, of this one
-    of-list : (P : List (Entry Condition) → Type 0) → P (entries (factPlan A (t .goal) capacity (endedBy until))) → P l
+    of-list : (P : List (Entry Condition) → Type 0) → P (entries (factPlan A goal capacity (endedBy until))) → P l
     of-list P = subst P q
 
     good : Good D (listing D l) (length l)
-    good = of-list (λ l. 0 < length l → Good D (listing D l) (length l)) (planned-good (fact-plannable A (t .goal)) capacity (endedBy until)) some
+    good = of-list (λ l. 0 < length l → Good D (listing D l) (length l)) (planned-good (fact-plannable A goal) capacity (endedBy until)) some
 
     known : (i : ℕ) → 0 < i → i < length l → entryIn D l i .action < length (t .jobs)
-    known = of-list (λ l. (i : ℕ) → 0 < i → i < length l → entryIn D l i .action < length (t .jobs)) (planned-action (fact-plannable A (t .goal)) capacity (endedBy until))
+    known = of-list (λ l. (i : ℕ) → 0 < i → i < length l → entryIn D l i .action < length (t .jobs)) (planned-action (fact-plannable A goal) capacity (endedBy until))
 
-    fits : Fits (t .facts) (length (t .jobs)) l
+    one-way : Each (λ x. T (consistent (x .condition))) l
+    one-way =
+        each-by-place _ l _ (of-list (λ l. (i : ℕ) → i < length l → T (consistent (entryIn D l i .condition)))
+        (consistent-conditions A goal capacity (endedBy until) (plain-consistent goal refl)))
+
+    fits : Fits paired (t .facts) (length (t .jobs)) l
     fits =
         record {
           some = some;
-          few = omega (arith, few, of-list (λ l. length l ≤ capacity) (planned-fits (fact-plannable A (t .goal)) capacity (endedBy until)));
+          few = omega (arith, few, of-list (λ l. length l ≤ capacity) (planned-fits (fact-plannable A goal) capacity (endedBy until)));
           facts-fit = facts-few;
           conditions-fit = each-by-place _ l _ (of-list (λ l. (i : ℕ) → i < length l → T (conditionWithin (t .facts) (entryIn D l i .condition)))
-              (condition-within A (t .goal) capacity (endedBy until) (t .facts) within-facts));
+              (condition-within A goal capacity (endedBy until) (t .facts) within-facts));
+          plain-fit = λ none. each-by-place _ l _ (of-list (λ l. (i : ℕ) → i < length l → entryIn D l i .condition .absent ≡ 0)
+              (plain-conditions A goal capacity (endedBy until) (nothing-absent none)));
           actions-fit = later-by-place _ l _ (λ i h. known (suc i) (omega arith) h);
         }
       where
         facts-few : t .facts ≤ 64
         facts-few = leb→le (t .facts) 64 (and-right (leb 1 (t .facts)) _ (holds _ (read-sound table b t e .facts-in-range)))
 
-    tick-is : (r : Reading) → sound (t .facts) r ≡ true → tickBytes table (treeBytes l) r ≡ accepted (tickTree r (treeOf l))
-    tick-is = tick-read table t e l fits
+    tick-is : (r : Reading) → sound (t .facts) r ≡ true → tickBytes table (treeBytes paired l) r ≡ accepted (tickTree r (treeOf paired l))
+    tick-is = tick-read paired table t e l fits
 
-    state-tick : (s : ℕ) → T (within (t .facts) s) → tickBytes table (treeBytes l) (state s) ≡ accepted (tickTree (state s) (treeOf l))
+    state-tick : (s : ℕ) → T (within (t .facts) s) → tickBytes table (treeBytes paired l) (state s) ≡ accepted (tickTree (state s) (treeOf paired l))
     state-tick s w = tick-is (state s) (is-true _ (state-sound (t .facts) s w))
 
     -- demand 3
-    run-fewest : (s : ℕ) → T (within (t .facts) s) → CoveredBy D l s → Fewest D (tickOn table (treeBytes l)) l s
+    run-fewest : (s : ℕ) → T (within (t .facts) s) → CoveredBy D l s → Fewest D (tickOn table (treeBytes paired l)) l s
     run-fewest =
-        of-list (λ m. ((s : ℕ) → T (within (t .facts) s) → tickOn table (treeBytes l) s ≡ tickList D m s)
-        → (s : ℕ) → T (within (t .facts) s) → CoveredBy D m s → Fewest D (tickOn table (treeBytes l)) m s)
-        (fact-fewest-by A (t .goal) capacity (endedBy until) (t .facts) within-facts (tickOn table (treeBytes l)))
-        (λ s w. ap runAnswer (state-tick s w) ∙ list-agrees A (t .goal) l s some)
+        of-list (λ m. ((s : ℕ) → T (within (t .facts) s) → tickOn table (treeBytes paired l) s ≡ tickList D m s)
+        → (s : ℕ) → T (within (t .facts) s) → CoveredBy D m s → Fewest D (tickOn table (treeBytes paired l)) m s)
+        (fact-fewest-by A goal capacity (endedBy until) (t .facts) within-facts separate (tickOn table (treeBytes paired l)))
+        (λ s w. ap runAnswer (state-tick s w) ∙ list-agrees paired A goal l s some)
 
     module _ (r : Reading) (sounds : sound (t .facts) r ≡ true) where
       apart : T (not (intersects (r .held) (r .unread)))
       apart = sound-apart (t .facts) r (holds _ sounds)
 
-      needs-met : (job : ℕ) → tickTree r (treeOf l) .answer ≡ Running job → (job < length (t .jobs)) × Confirmed r (needed (actionOf (jobOf t job)))
+      needs-met : (job : ℕ) → tickTree r (treeOf paired l) .answer ≡ Running job → (job < length (t .jobs)) × Confirmed r (needed (actionOf (jobOf t job)))
       needs-met job a =
-          let n = list-named A (t .goal) l r job some a in
+          let n = list-named paired A goal l r job some a in
           let d = good .derived (suc (n .0)) (omega arith) (n .1) in
           let its = entryIn D l (suc (n .0)) .action in
           let needs : Confirmed r (needed (actionOf (jobOf t its))) =
           regressed-confirmed r (actionOf (jobOf t its)) _ (rw (d .condition-regressed) at (n .3)) in
           (rw (n .2) at (known (suc (n .0)) (omega arith) (n .1)), rw (n .2) at needs)
 
-      two-differ : (m : ℕ) → tickTree r (treeOf l) .answer ≡ Unsettled m
-          → (s u : ℕ) × Completes r s × Completes r u × (tickBytes table (treeBytes l) (state s) ≡ tickBytes table (treeBytes l) (state u) → ⊥)
+      two-differ : (m : ℕ) → tickTree r (treeOf paired l) .answer ≡ Unsettled m
+          → (s u : ℕ) × Completes r s × Completes r u × (tickBytes table (treeBytes paired l) (state s) ≡ tickBytes table (treeBytes paired l) (state u) → ⊥)
       two-differ m a =
-          let d = list-differ l r m apart some a in (
+          let d = list-differ paired l r m apart one-way some a in (
             d .0,
             d .1,
             d .2,
@@ -159,24 +187,24 @@ module _ (table : List ℕ) (b : AreBytes table) (t : Table) (e : readTable tabl
             λ same. d .4 (accepted-same (sym (filled (d .0) (d .2)) ∙ same ∙ filled (d .1) (d .3))),
           )
         where
-          filled : (s : ℕ) → Completes r s → tickBytes table (treeBytes l) (state s) ≡ accepted (tickTree (state s) (treeOf l))
+          filled : (s : ℕ) → Completes r s → tickBytes table (treeBytes paired l) (state s) ≡ accepted (tickTree (state s) (treeOf paired l))
           filled s k = state-tick s (completes-within (t .facts) r (holds _ sounds) s k)
 
-      ticks-well : Ticks t table (treeBytes l) r
-      ticks-well = record { answer = tickTree r (treeOf l); is-answer = tick-is r sounds; needs-held = needs-met; unsettled = two-differ }
+      ticks-well : Ticks t table (treeBytes paired l) r
+      ticks-well = record { answer = tickTree r (treeOf paired l); is-answer = tick-is r sounds; needs-held = needs-met; unsettled = two-differ }
 
-    fails-iff : (s : ℕ) → T (within (t .facts) s) → (answered (tickBytes table (treeBytes l) (state s)) ≡ accepted Failure) ↔ (CoveredBy D l s → ⊥)
+    fails-iff : (s : ℕ) → T (within (t .facts) s) → (answered (tickBytes table (treeBytes paired l) (state s)) ≡ accepted Failure) ↔ (CoveredBy D l s → ⊥)
     fails-iff s w =
-        let f = list-fails A (t .goal) l s some in
+        let f = list-fails paired A goal l s some in
         rw (state-tick s w) ((λ e. f .0 (accepted-same e)), (λ n. ap accepted (f .1 n)))
 
-    pub list-works : FewestJobs t table l (treeBytes l)
+    pub list-works : FewestJobs t table l (treeBytes paired l)
     list-works = record { best = run-fewest; fails = fails-iff; ticks = ticks-well }
 
   -- ---- the stops of a plan
 
   abbrev ending : Outcome Condition
-  ending = factPlan A (t .goal) capacity (endedBy until)
+  ending = factPlan A goal capacity (endedBy until)
 
   -- a list that did not end as was asked is full, or every entry is expanded and the start is not covered
   abbrev NoWay : ℕ → ℕ → Type 0
@@ -187,7 +215,7 @@ module _ (table : List ℕ) (b : AreBytes table) (t : Table) (e : readTable tabl
     where
       by-end : (u : Until) (o : Outcome Condition) → ending ≡ o → listedBy u o ≡ refused n p → ((n ≡ 10) × (p ≡ capacity)) ⊎ NoWay n p
       by-end u (full l) q e =
-          let size = planned-full (fact-plannable A (t .goal)) capacity (endedBy until) l q in
+          let size = planned-full (fact-plannable A goal) capacity (endedBy until) l q in
           let place : length l ≡ p = cc in
           inl (cc, omega (arith, size, place))
       by-end (U.Covers start) (exhausted l) q e = inr (cc, rw q (cc), e₀, (l, q))
@@ -195,10 +223,10 @@ module _ (table : List ℕ) (b : AreBytes table) (t : Table) (e : readTable tabl
       by-end u (covered l) q e = absurd (not-both (sym e))
 
   module _ {Told : Type 0} (room : ℕ) (tell : List (Entry Condition) → Told) where
-    pub plan-stops : (n p : ℕ) → planBy until room tell ending .answer ≡ refused n p
-        → NoWay n p ⊎ NoRoom capacity room (planBy until room tell ending .list) n p
+    pub plan-stops : (n p : ℕ) → planBy paired until room tell ending .answer ≡ refused n p
+        → NoWay n p ⊎ NoRoom paired capacity room (planBy paired until room tell ending .list) n p
     plan-stops n p a =
-        let same = plan-list until room tell ending in
+        let same = plan-list paired tell until room ending in
         ⊎-elim (λ e. ⊎-elim (λ f. inr (inl f)) inl (list-stops n p e))
         (λ w. let q = listed-entries until ending (w .0) (w .1) ∙ sym same in inr (inr (w .2, w .3 ∙ ap length q, rw q at (w .4))))
-        (refused-told until room tell ending n p a)
+        (refused-told paired until room tell ending n p a)

@@ -11,14 +11,16 @@ ghost use Rattle.refusal.specs.Checked.{accepted};
 ghost use Rattle.table.specs.Table.{Table};
 ghost use Rattle.table.specs.Read.{readTable, headed};
 ghost use Rattle.tree.specs.ReadTree.{maxChildren};
-ghost use Rattle.expander.specs.Expands.{columns, room, expandedOf, Expands};
+ghost use Rattle.conditions.specs.Condition.{plain};
+ghost use Rattle.expander.specs.Expands.{columns, room, Unlent, expandedOf, Expands};
 ghost use Rattle.flat.specs.TreeBytes.{treeEntries};
-ghost use Rattle.builder.specs.Plan.{tableActions, withTree, tablePlan, sizeOf, listedOf, builtOf, WritesTree, WritesPlan};
+ghost use Rattle.builder.specs.Plan.{tableActions, pairs, ifPaired, withTree, tablePlan, sizeOf, listedOf, builtOf, WritesTree, WritesPlan};
 
-// The entries of a list, and the bytes of its tree.
+// The entries of a list and the bytes of its tree, and whether both hold second masks.
 pub struct Size {
     pub entries: usize,
     pub bytes: usize,
+    pub paired: bool,
 }
 
 pub enum Built {
@@ -27,24 +29,34 @@ pub enum Built {
     Refused(Refusal),
 }
 
+// So many, where a job needs a fact absent: for a table without such jobs there are no second masks.
+fn if_paired(paired: bool, n: usize) -> usize
+    ensures { λ r. ⌜ r ≡ ifPaired paired n ⌝ }
+{
+    if paired { n } else { 0 }
+}
+
 // Lists the conditions from which the jobs of a sound table lead to its goal, up to the first that ends the list.
 fn expand_goal(
     table: &[u8],
     header: Header,
     until: Until,
     conditions: &mut [u64],
+    absences: &mut [u64],
     actions: &mut [u8],
     parents: &mut [u16],
     depths: &mut [u16],
 ) -> Expanded
-    requires { ⌜ accepted header ≡ headed (readTable (now table)) ⌝ }
-    ensures { λ r. ⌜ ((t : Table) → accepted t ≡ readTable (now (table .entry)) → Expands (tableActions t) (t .goal) until
-        (columns (now (conditions .entry)) (now (actions .entry)) (now (parents .entry)) (now (depths .entry)))
-        (columns (now (conditions .exit)) (now (actions .exit)) (now (parents .exit)) (now (depths .exit))) r) ⌝ }
+    requires { ⌜ (accepted header ≡ headed (readTable (now table))) × Unlent (header .paired) (now absences) ⌝ }
+    ensures { λ r. ⌜ ((t : Table) → accepted t ≡ readTable (now (table .entry)) → Expands (pairs t) (tableActions t) (plain (t .goal)) until
+        (columns (now (conditions .entry)) (now (absences .entry)) (now (actions .entry)) (now (parents .entry)) (now (depths .entry)))
+        (columns (now (conditions .exit)) (now (absences .exit)) (now (actions .exit)) (now (parents .exit)) (now (depths .exit))) r) ⌝ }
 {
     let count = header.jobs;
     let goal = header.goal;
+    let used = if_paired(header.paired, count);
     let mut needs = [0u64; table::MAX_JOBS];
+    let mut absent = [0u64; table::MAX_JOBS];
     let mut adds = [0u64; table::MAX_JOBS];
     let mut deletes = [0u64; table::MAX_JOBS];
     let mut seconds = [0u16; table::MAX_JOBS];
@@ -52,17 +64,20 @@ fn expand_goal(
         table,
         count,
         &mut needs,
+        &mut absent,
         &mut adds,
         &mut deletes,
         &mut seconds,
     );
     expander::expand(
         &needs[..count],
+        &absent[..used],
         &adds[..count],
         &deletes[..count],
         goal,
         until,
         conditions,
+        absences,
         actions,
         parents,
         depths,
@@ -96,29 +111,81 @@ fn as_listed(until: Until, expanded: Expanded) -> Listed
 }
 
 // Writes the tree of the list's first n entries, where it has room.
-fn fit_tree(n: usize, conditions: &[u64], actions: &[u8], tree: &mut [u8]) -> Built
+fn fit_tree(
+    paired: bool,
+    n: usize,
+    conditions: &[u64],
+    absences: &[u64],
+    actions: &[u8],
+    tree: &mut [u8],
+) -> Built
     requires { ⌜ (1 ≤ n) × (n ≤ maxChildren) × (n ≤ length (now conditions)) × (n ≤ length (now actions)) ⌝ }
     ensures { λ r. ⌜ WritesTree
-        (withTree (length (now (tree .entry))) (sizeOf (treeEntries (now (conditions .entry)) (now (actions .entry)) n)) (treeEntries (now (conditions .entry)) (now (actions .entry)) n))
+        (withTree paired (length (now (tree .entry))) (sizeOf paired (treeEntries (now (conditions .entry)) (now (absences .entry)) (now (actions .entry)) n))
+        (treeEntries (now (conditions .entry)) (now (absences .entry)) (now (actions .entry)) n))
         (now (tree .entry)) (now (tree .exit)) (builtOf r) ⌝ }
 {
-    let bytes = flat::tree_size(n);
+    let bytes = flat::tree_size(paired, n);
     if tree.len() < bytes {
         return Built::Refused(Refusal {
             reason: Reason::TreeTooShort,
             place: n,
         });
     }
-    flat::write_tree(n, conditions, actions, tree);
-    Built::Whole(Size { entries: n, bytes })
+    flat::write_tree(paired, n, conditions, absences, actions, tree);
+    Built::Whole(Size {
+        entries: n,
+        bytes,
+        paired,
+    })
 }
 
-// The list up to what ends it, and its tree, of a table that was read.
+// The list up to what ends it, and its tree, of a table that was read. No second masks are lent where it needs none.
+fn build_in(
+    table: &[u8],
+    header: Header,
+    until: Until,
+    conditions: &mut [u64],
+    absences: &mut [u64],
+    actions: &mut [u8],
+    parents: &mut [u16],
+    depths: &mut [u16],
+    tree: &mut [u8],
+) -> Built
+    requires { ⌜ (accepted header ≡ headed (readTable (now table))) × Unlent (header .paired) (now absences) ⌝ }
+    ensures { λ r. ⌜ ((t : Table) → accepted t ≡ readTable (now (table .entry)) → WritesPlan
+        (tablePlan until t
+        (room (columns (now (conditions .entry)) (now (absences .entry)) (now (actions .entry)) (now (parents .entry)) (now (depths .entry))))
+        (length (now (tree .entry))) (sizeOf (pairs t)))
+        (columns (now (conditions .entry)) (now (absences .entry)) (now (actions .entry)) (now (parents .entry)) (now (depths .entry)))
+        (columns (now (conditions .exit)) (now (absences .exit)) (now (actions .exit)) (now (parents .exit)) (now (depths .exit)))
+        (now (tree .entry)) (now (tree .exit)) (builtOf r)) ⌝ }
+{
+    let paired = header.paired;
+    let expanded = expand_goal(
+        table,
+        header,
+        until,
+        conditions,
+        absences,
+        actions,
+        parents,
+        depths,
+    );
+    match as_listed(until, expanded) {
+        Listed::Refused(x) => Built::Refused(x),
+        Listed::Entries(n) => fit_tree(paired, n, conditions, absences, actions, tree),
+    }
+}
+
+// The same, in list tables of which the second masks are of no use to a table without such jobs: then they are neither counted nor written, however
+// many are lent.
 pub fn build(
     table: &[u8],
     header: Header,
     until: Until,
     conditions: &mut [u64],
+    absences: &mut [u64],
     actions: &mut [u8],
     parents: &mut [u16],
     depths: &mut [u16],
@@ -126,14 +193,23 @@ pub fn build(
 ) -> Built
     requires { ⌜ accepted header ≡ headed (readTable (now table)) ⌝ }
     ensures { λ r. ⌜ ((t : Table) → accepted t ≡ readTable (now (table .entry)) → WritesPlan
-        (tablePlan until t (room (columns (now (conditions .entry)) (now (actions .entry)) (now (parents .entry)) (now (depths .entry)))) (length (now (tree .entry))) sizeOf)
-        (columns (now (conditions .entry)) (now (actions .entry)) (now (parents .entry)) (now (depths .entry)))
-        (columns (now (conditions .exit)) (now (actions .exit)) (now (parents .exit)) (now (depths .exit)))
+        (tablePlan until t
+        (room (columns (now (conditions .entry)) (now (absences .entry)) (now (actions .entry)) (now (parents .entry)) (now (depths .entry))))
+        (length (now (tree .entry))) (sizeOf (pairs t)))
+        (columns (now (conditions .entry)) (now (absences .entry)) (now (actions .entry)) (now (parents .entry)) (now (depths .entry)))
+        (columns (now (conditions .exit)) (now (absences .exit)) (now (actions .exit)) (now (parents .exit)) (now (depths .exit)))
         (now (tree .entry)) (now (tree .exit)) (builtOf r)) ⌝ }
 {
-    let expanded = expand_goal(table, header, until, conditions, actions, parents, depths);
-    match as_listed(until, expanded) {
-        Listed::Refused(x) => Built::Refused(x),
-        Listed::Entries(n) => fit_tree(n, conditions, actions, tree),
-    }
+    let used = if_paired(header.paired, absences.len());
+    build_in(
+        table,
+        header,
+        until,
+        conditions,
+        &mut absences[..used],
+        actions,
+        parents,
+        depths,
+        tree,
+    )
 }

@@ -20,12 +20,14 @@ ghost use Rattle.planner.specs.Way.{linked, Linked, Traced, rowSeconds, 
 ghost use Rattle.planner.specs.Plan.{secondsOf, startFor};
 ghost use Rattle.planner.specs.Promise.{Plans};
 
-// What a plan gives besides its list and tree. The jobs and the minutes are those of the way from the start.
+// What a plan gives besides its list and tree. The jobs and the minutes are those of the way from the start; `paired` where list and tree hold second
+// masks.
 pub struct Summary {
     pub entries: usize,
     pub bytes: usize,
     pub jobs: usize,
     pub minutes: u32,
+    pub paired: bool,
 }
 
 pub enum Planned {
@@ -77,14 +79,17 @@ fn summarize(
       bytes = size .bytes;
       jobs = length (path (linked (now (actions .entry)) (now (parents .entry))) (size .entries - 1));
       minutes = nearest (secondsOf (jobsOf (readTable (now (table .entry)))) (path (linked (now (actions .entry)) (now (parents .entry))) (size .entries - 1)));
+      paired = size .paired;
     } ⌝ }
 {
     let count = header.jobs;
     let entries = size.entries;
     let bytes = size.bytes;
+    let paired = size.paired;
     let last = entries - 1;
     let jobs = depths[last] as usize;
     let mut needs = [0u64; table::MAX_JOBS];
+    let mut absent = [0u64; table::MAX_JOBS];
     let mut adds = [0u64; table::MAX_JOBS];
     let mut deletes = [0u64; table::MAX_JOBS];
     let mut seconds = [0u16; table::MAX_JOBS];
@@ -92,6 +97,7 @@ fn summarize(
         table,
         count,
         &mut needs,
+        &mut absent,
         &mut adds,
         &mut deletes,
         &mut seconds,
@@ -102,6 +108,7 @@ fn summarize(
         bytes,
         jobs,
         minutes,
+        paired,
     }
 }
 
@@ -112,14 +119,15 @@ pub fn plan(
     table: &[u8],
     start: Reading,
     conditions: &mut [u64],
+    absences: &mut [u64],
     actions: &mut [u8],
     parents: &mut [u16],
     depths: &mut [u16],
     tree: &mut [u8],
 ) -> Planned
     ensures { λ r. ⌜ Plans (now (table .entry)) start
-        (columns (now (conditions .entry)) (now (actions .entry)) (now (parents .entry)) (now (depths .entry)))
-        (columns (now (conditions .exit)) (now (actions .exit)) (now (parents .exit)) (now (depths .exit)))
+        (columns (now (conditions .entry)) (now (absences .entry)) (now (actions .entry)) (now (parents .entry)) (now (depths .entry)))
+        (columns (now (conditions .exit)) (now (absences .exit)) (now (actions .exit)) (now (parents .exit)) (now (depths .exit)))
         (now (tree .entry)) (now (tree .exit)) r ⌝ }
 {
     match start_for(table, start) {
@@ -130,6 +138,7 @@ pub fn plan(
                 header,
                 Until::Covers(start.held),
                 conditions,
+                absences,
                 actions,
                 parents,
                 depths,

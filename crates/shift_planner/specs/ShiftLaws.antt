@@ -3,13 +3,14 @@
 use Prim.Native.Nat.{ℕ, _≤_}
 use native.Mathlib.Omega.{arith}
 use mathlib.Core.Path.{_≡_, refl, sym, ap}
-use mathlib.Core.Bool.{false}
+use mathlib.Core.Bool.{Bool, false}
 use mathlib.Core.List.{List}
 use mathlib.Core.Logic.{_↔_, ⊎-elim}
 use lib.ListN.{length}
 use Rattle.refusal.specs.Checked.{accepted, refused}
 use Rattle.refusal.specs.CheckedLaws.{not-both, accepted-same}
-use Rattle.conditions.specs.Condition.{Condition}
+use Rattle.conditions.specs.declared.Condition.{Condition}
+use Rattle.conditions.specs.Condition.{plain}
 use Rattle.numbers.specs.Numbers.{AreBytes}
 use Rattle.table.specs.Table.{Table}
 use Rattle.table.specs.Read.{readTable}
@@ -21,13 +22,13 @@ use Rattle.planning.specs.Facts.{shiftPlan}
 use Rattle.planning.specs.FactLaws.{fact-plannable, fact-covered-iff, fact-unending}
 use Rattle.expander.specs.declared.Until.the-variants.{Never}
 use Rattle.expander.specs.Expands.{Columns, room, listedBy}
-use Rattle.expander.specs.ExpandsLaws.{capacity-most}
+use Rattle.flat.specs.FlatTree.{maxEntries}
 use Rattle.builder.specs.declared.Size.{Size}
 use Rattle.builder.specs.declared.Built.{Built}
-use Rattle.builder.specs.Plan.{tableActions, tableDomain, Plan, noPlan, planBy, tablePlan, sizeOf, builtOf, WritesPlan}
-use Rattle.builder.specs.PlanLaws.{plan-list, whole-told}
+use Rattle.builder.specs.Plan.{tableActions, tableDomain, pairs, Plan, noPlan, planBy, tablePlan, sizeOf, builtOf, WritesPlan}
+use Rattle.builder.specs.PlanLaws.{columns-few, plan-list, whole-told}
 use Rattle.builder.specs.Works.{FewestJobs, NoRoom}
-use Rattle.builder.specs.WorksLaws.{list-irredundant, list-works, plan-stops}
+use Rattle.builder.specs.WorksLaws.{separate, list-irredundant, list-works, plan-stops}
 use Rattle.shift_planner.specs.Shift.{planShift, Serves, PlansShift}
 
 -- nothing ends the list early, so every entry is expanded
@@ -42,12 +43,19 @@ never-11 (full l) p e = let z : _≡_ {A = ℕ} 10 11 = cc in omega arith
 never-11 (exhausted l) p e = not-both (sym e)
 never-11 (covered l) p e = not-both (sym e)
 
-module _ (table : List ℕ) (b : AreBytes table) (t : Table) (e : readTable table ≡ accepted t) (capacity size : ℕ) (few : capacity ≤ 4096) where
+module _ (table : List ℕ) (b : AreBytes table) (t : Table) (e : readTable table ≡ accepted t) (capacity : Bool → ℕ) (size : ℕ)
+    (few : (paired : Bool) → capacity paired ≤ maxEntries paired) where
+  abbrev paired : Bool
+  paired = pairs t
+
+  abbrev most : ℕ
+  most = capacity paired
+
   abbrev outcome : Outcome Condition
-  outcome = shiftPlan (tableActions t) (t .goal) capacity
+  outcome = shiftPlan (tableActions t) (plain (t .goal)) most
 
   abbrev whole : Plan Size
-  whole = planBy Never size sizeOf outcome
+  whole = planBy paired Never size (sizeOf paired) outcome
 
   read : planShift table capacity size ≡ whole
   unfolding planShift tablePlan
@@ -56,22 +64,22 @@ module _ (table : List ℕ) (b : AreBytes table) (t : Table) (e : readTable tabl
   -- the list of an accepted plan, and that every entry of it is expanded
   ended : (p : Size) → whole .answer ≡ accepted p → (l : List (Entry Condition)) × (outcome ≡ exhausted l) × (whole .list ≡ l)
   ended p a =
-      let w = whole-told Never size sizeOf outcome p a in
-      (w .list, exhausted-told outcome (w .list) (fact-unending (tableActions t) (t .goal) capacity) (w .listed), ap (λ (P : Plan Size). P .list) (w .plan-is))
+      let w = whole-told paired Never size (sizeOf paired) outcome p a in
+      (w .list, exhausted-told outcome (w .list) (fact-unending (tableActions t) (plain (t .goal)) most) (w .listed), ap (λ (P : Plan Size). P .list) (w .plan-is))
 
   works : (p : Size) → whole .answer ≡ accepted p → FewestJobs t table (whole .list) (whole .tree)
   works p a =
-      let w = whole-told Never size sizeOf outcome p a in
-      let q = exhausted-told outcome (w .list) (fact-unending (tableActions t) (t .goal) capacity) (w .listed) in
-      rw (w .plan-is) (list-works table b t e capacity Never few (w .list)
-      (exhausted-nonempty (fact-plannable (tableActions t) (t .goal)) capacity (λ c. false) (w .list) q) (ap entries q))
+      let w = whole-told paired Never size (sizeOf paired) outcome p a in
+      let q = exhausted-told outcome (w .list) (fact-unending (tableActions t) (plain (t .goal)) most) (w .listed) in
+      rw (w .plan-is) (list-works table b t e most Never (few paired) (w .list)
+      (exhausted-nonempty (fact-plannable (tableActions t) (plain (t .goal))) most (λ c. false) (w .list) q) (ap entries q))
 
   covers : (p : Size) → whole .answer ≡ accepted p → (s : ℕ) → CoveredBy (tableDomain t) (whole .list) s ↔ ((w : List ℕ) × Reaches (tableDomain t) s w)
-  covers p a = let x = ended p a in rw (x .2) (fact-covered-iff (tableActions t) (t .goal) capacity (λ c. false) (x .0) (x .1))
+  covers p a = let x = ended p a in rw (x .2) (fact-covered-iff (tableActions t) (plain (t .goal)) most (λ c. false) (separate table b t e most Never) (x .0) (x .1))
 
-  stops : (n p : ℕ) → whole .answer ≡ refused n p → NoRoom capacity size (whole .list) n p
+  stops : (n p : ℕ) → whole .answer ≡ refused n p → NoRoom paired most size (whole .list) n p
   stops n p a =
-      ⊎-elim (λ f. absurd (never-11 outcome p (rw (f .0) at (f .2)))) (λ f. f) (plan-stops table b t e capacity Never size sizeOf n p a)
+      ⊎-elim (λ f. absurd (never-11 outcome p (rw (f .0) at (f .2)))) (λ f. f) (plan-stops table b t e most Never size (sizeOf paired) n p a)
 
   pub every-shift : Serves t table capacity size (planShift table capacity size)
   every-shift =
@@ -79,17 +87,17 @@ module _ (table : List ℕ) (b : AreBytes table) (t : Table) (e : readTable tabl
         works = works;
         covers = covers;
         stops = stops;
-        irredundant = rw (plan-list Never size sizeOf outcome) (list-irredundant table b t e capacity Never);
+        irredundant = rw (plan-list paired (sizeOf paired) Never size outcome) (list-irredundant table b t e most Never);
       })
 
 -- ---- the parts of the code
 
-module _ (table : List ℕ) (capacity size : ℕ) where
+module _ (table : List ℕ) (capacity : Bool → ℕ) (size : ℕ) where
   pub shift-refused : (n p : ℕ) → refused n p ≡ readTable table → noPlan n p ≡ planShift table capacity size
   unfolding planShift
   shift-refused n p e = rw (← e)
 
-  pub shift-read : (t : Table) → accepted t ≡ readTable table → tablePlan Never t capacity size sizeOf ≡ planShift table capacity size
+  pub shift-read : (t : Table) → accepted t ≡ readTable table → tablePlan Never t capacity size (sizeOf (pairs t)) ≡ planShift table capacity size
   unfolding planShift
   shift-read t e = rw (← e)
 
@@ -98,6 +106,5 @@ pub shift-kept : (table : List ℕ) → AreBytes table → (before after : Colum
 shift-kept table b before after lent tree r w =
     record {
       writes = w;
-      serves = λ t e. every-shift table b t e (room before) (length lent)
-          (capacity-most (length (before .conditions)) (length (before .actions)) (length (before .parents)) (length (before .depths)));
+      serves = λ t e. every-shift table b t e (room before) (length lent) (columns-few before);
     }

@@ -11,14 +11,15 @@ ghost use Rattle.shift_planner.specs.Shift.{PlansShift};
 pub fn plan_shift(
     table: &[u8],
     conditions: &mut [u64],
+    absences: &mut [u64],
     actions: &mut [u8],
     parents: &mut [u16],
     depths: &mut [u16],
     tree: &mut [u8],
 ) -> Built
     ensures { λ r. ⌜ PlansShift (now (table .entry))
-        (columns (now (conditions .entry)) (now (actions .entry)) (now (parents .entry)) (now (depths .entry)))
-        (columns (now (conditions .exit)) (now (actions .exit)) (now (parents .exit)) (now (depths .exit)))
+        (columns (now (conditions .entry)) (now (absences .entry)) (now (actions .entry)) (now (parents .entry)) (now (depths .entry)))
+        (columns (now (conditions .exit)) (now (absences .exit)) (now (actions .exit)) (now (parents .exit)) (now (depths .exit)))
         (now (tree .entry)) (now (tree .exit)) r ⌝ }
 {
     match table::read_table(table) {
@@ -28,6 +29,7 @@ pub fn plan_shift(
             header,
             Until::Never,
             conditions,
+            absences,
             actions,
             parents,
             depths,

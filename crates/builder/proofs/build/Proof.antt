@@ -1,61 +1,53 @@
--- `builder::build` meets its contract: how the list ended is what the definition answers by.
+-- `builder::build` meets its contract: what is not lent of the second masks stays as it is, and is not counted.
 -- Assumes nothing.
 use native.Mathlib.Omega.{arith}
-use mathlib.Core.Path.{_≡_, refl, sym, ap, _∙_}
+use mathlib.Core.Path.{refl, sym, ap, _∙_}
+use mathlib.Core.Bool.{Bool}
+use Prim.Native.Nat.{_≤_}
+use lib.ListN.{length}
+use lib.Seq.{length-take-le}
 use borrow.Author.Needs.{needs}
-use Rattle.refusal.specs.Checked.{accepted}
-use Rattle.table.specs.Read.{readTable}
-use Rattle.table.specs.ReadLaws.{headed-sound}
-use Rattle.expander.specs.Expands.{expandedOf}
-use Rattle.builder.specs.Plan.{sizeOf, listedOf}
-use Rattle.builder.specs.PlanLaws.{ended-stored, ended-some, list-stands, writes-list, writes-built}
+use Rattle.numbers.specs.Numbers.{AreBytes}
+use Rattle.builder.specs.Plan.{pairs, ifPaired, sizeOf}
+use Rattle.builder.specs.RowLaws.{if-most, header-paired}
+use Rattle.builder.specs.PlanLaws.{cut-unlent, writes-lent}
 use Rattle.builder.proofs.build.Statement.{statement}
 use Rattle.builder.proofs.build.Tie as tie
 
--- ---- the list is stored, and how it ended is known
+-- ---- it is known how much of the second masks is lent
 
-abbrev Ended : Type 0
-Ended = tie.After-as-listed
+abbrev Counted : Type 0
+Counted = tie.After-if-paired
 
-abbrev expanded-of : Ended → tie.After-expand-goal
-expanded-of c = c .before .before .before .before .before .before .before .before .before
+abbrev start-of : Counted → tie.Start
+start-of c = c .before .before .before .before .before .before .before .before
 
-abbrev start-of : Ended → tie.Start
-start-of c = expanded-of c .before .before .before .before .before .before .before .before .before .before .before
+bytes : (c : Counted) → AreBytes (start-of c .args .table .now)
+bytes c = λ i. c .before .before .before .before .before .before .before .shared-slice-known .given i .fits
+
+used-few : (c : Counted) → c .if-paired .result ≤ length (start-of c .args .absences .now)
+used-few c = let a = start-of c .args in omega (arith, c .if-paired .ensures, if-most (a .header .paired) (length (a .absences .now)))
 
 -- ---- the answers, in the order of the code
 
-expand-goal-requires : tie.Need-expand-goal-requires
-expand-goal-requires c κs = search needs
+if-paired-requires : tie.Need-if-paired-requires
+if-paired-requires c κs = search needs
 
-as-listed-requires : tie.Need-as-listed-requires
-as-listed-requires c κs = search needs
+slice-relend-prefix-build-in : tie.Need-slice-relend-prefix-build-in
+slice-relend-prefix-build-in c = used-few (c .before)
 
-enum-known-x : tie.Need-enum-known-x
-enum-known-x c = search needs
+slice-aggregate-build-in : tie.Need-slice-aggregate-build-in
+slice-aggregate-build-in c = sym (length-take-le _ _ (used-few (c .before .before)))
 
-enum-known-n : tie.Need-enum-known-n
-enum-known-n c = search needs
+-- the tables are lent on
+abbrev lending-of : tie.After-build-in-arg6 → Counted
+lending-of c = c .before .before .before .before .before .before
 
--- a list that ended as was asked
-abbrev Listed : Type 0
-Listed = tie.After-n
-
-abbrev ended-of : Listed → Ended
-ended-of c = c .before .before
-
-ended-is : (c : Listed) → accepted (c .n .given .0 .0) ≡ expandedOf (start-of (ended-of c) .args .until) (expanded-of (ended-of c) .expand-goal .result)
-ended-is c = ap listedOf (sym (c .n .given .1)) ∙ ended-of c .as-listed .ensures
-
-fit-tree-requires : tie.Need-fit-tree-requires
-fit-tree-requires c κs =
-    let x = c .before .before .before .before in
-    let k = ended-of x in
-    let f = headed-sound (readTable (start-of k .args .table .now)) (start-of k .pre) in
-    let E = expanded-of k .expand-goal .ensures (f .0) (f .1) in
-    let S = list-stands E in
-    let n = ended-stored E _ (sym (ended-is x)) in
-    (ended-some E _ (sym (ended-is x)), omega (arith, S .few, n), omega (arith, S .in-conditions, n), omega (arith, S .in-actions, n))
+build-in-requires : tie.Need-build-in-requires
+build-in-requires c κs =
+    let k = lending-of c in
+    let a = start-of k in
+    (a .pre, cut-unlent (a .args .header .paired) _ (a .args .absences .now) (k .if-paired .ensures))
 
 same-length : tie.Need-same-length
 same-length c = search needs
@@ -69,53 +61,34 @@ same-length-3 c = search needs
 same-length-4 : tie.Need-same-length-4
 same-length-4 c = search needs
 
-returns : tie.Need-returns
-returns c =
-    let x = c .before in
-    let k = x .before .before in
-    λ t e. writes-list t (start-of k .args .until) _ _ _ (expanded-of k .expand-goal .ensures t e) sizeOf (start-of k .args .tree .now) _ _ _
-    (sym (ap listedOf (sym (x .x .given .1)) ∙ k .as-listed .ensures)) refl
-
 same-length-5 : tie.Need-same-length-5
 same-length-5 c = search needs
 
 same-length-6 : tie.Need-same-length-6
 same-length-6 c = search needs
 
-same-length-7 : tie.Need-same-length-7
-same-length-7 c = search needs
-
-same-length-8 : tie.Need-same-length-8
-same-length-8 c = search needs
-
-same-length-9 : tie.Need-same-length-9
-same-length-9 c = search needs
-
-returns-2 : tie.Need-returns-2
-returns-2 c =
-    let w = c .before .before in
-    let x = w .before .before .before .before .before in
-    let k = ended-of x in
-    λ t e. writes-built t (start-of k .args .until) _ _ _ (expanded-of k .expand-goal .ensures t e) (start-of k .args .tree .now) _ _ (sym (ended-is x)) _
-    (w .fit-tree .ensures)
+returns : tie.Need-returns
+returns c =
+    let b = c .before .before .before .before .before .before .before .before .before .before .before .before in
+    let k = lending-of (b .before) in
+    let a = start-of k .args in
+    λ t e.
+    let paired = header-paired (a .table .now) (bytes k) (a .header) (start-of k .pre) t e in
+    let used = k .if-paired .ensures ∙ ap (λ (p : Bool). ifPaired p (length (a .absences .now))) paired in
+    writes-lent _ (a .absences .now) _ _ _ (a .until) t (sizeOf (pairs t)) _ _ _ _ _ _ _ _ _ _ used (b .build-in .ensures t e) refl
 
 pub build-spec : {M : Type 1} → statement M
 build-spec =
     tie.close
     (tie.spec
-    expand-goal-requires
-    as-listed-requires
-    enum-known-x
-    enum-known-n
-    fit-tree-requires
+    if-paired-requires
+    slice-relend-prefix-build-in
+    slice-aggregate-build-in
+    build-in-requires
     same-length
     same-length-2
     same-length-3
     same-length-4
-    returns
     same-length-5
     same-length-6
-    same-length-7
-    same-length-8
-    same-length-9
-    returns-2)
+    returns)

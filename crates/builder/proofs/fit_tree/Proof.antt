@@ -14,8 +14,8 @@ use Rattle.builder.specs.PlanLaws.{tree-short, tree-fits, sized}
 use Rattle.builder.proofs.fit_tree.Statement.{statement}
 use Rattle.builder.proofs.fit_tree.Tie as tie
 
-size : (conditions actions : List ℕ) (n : ℕ) → length (treeEntries conditions actions n) ≡ n
-size conditions actions n = length-prefix (entryAt conditions actions [] []) n
+size : (conditions absences actions : List ℕ) (n : ℕ) → length (treeEntries conditions absences actions n) ≡ n
+size conditions absences actions n = length-prefix (entryAt conditions absences actions [] []) n
 
 -- ---- how many bytes the tree takes
 
@@ -23,10 +23,10 @@ abbrev Sized : Type 0
 Sized = tie.After-tree-size
 
 abbrev start-of : Sized → tie.Start
-start-of c = c .before .before .before .before
+start-of c = c .before .before .before .before .before
 
-bytes : (c : Sized) → let a = start-of c .args in c .tree-size .result ≡ length (treeBytes (treeEntries (a .conditions .now) (a .actions .now) (a .n)))
-bytes c = let a = start-of c .args in c .tree-size .ensures _ (size (a .conditions .now) (a .actions .now) (a .n))
+bytes : (c : Sized) → let a = start-of c .args in c .tree-size .result ≡ length (treeBytes (a .paired) (treeEntries (a .conditions .now) (a .absences .now) (a .actions .now) (a .n)))
+bytes c = let a = start-of c .args in c .tree-size .ensures _ (size (a .conditions .now) (a .absences .now) (a .actions .now) (a .n))
 
 -- ---- the answers, in the order of the code
 
@@ -37,13 +37,13 @@ returns : tie.Need-returns
 returns c =
     let k = c .before in
     let a = start-of k .args in
-    tree-short _ _ _ _ _ (omega (arith, bytes k, c .if1 .taken)) refl (ap (refused 12) (sym (size (a .conditions .now) (a .actions .now) (a .n))))
+    tree-short _ _ _ _ _ _ (omega (arith, bytes k, c .if1 .taken)) refl (ap (refused 12) (sym (size (a .conditions .now) (a .absences .now) (a .actions .now) (a .n))))
 
 write-tree-requires : tie.Need-write-tree-requires
 write-tree-requires c κs =
     let k = c .before .before in
     let p = start-of k .pre in
-    (p .0, p .1, p .2, p .3, omega (arith, bytes k, c .before .if1 .left))
+    (p .0, p .1, p .3, omega (arith, bytes k, c .before .if1 .left))
 
 same-length : tie.Need-same-length
 same-length c = search needs
@@ -53,9 +53,9 @@ returns-2 c =
     let w = c .before .before in
     let k = w .before .before .before in
     let a = start-of k .args in
-    let l = treeEntries (a .conditions .now) (a .actions .now) (a .n) in
-    tree-fits l _ (a .tree .now) _ _ (omega (arith, bytes k, w .before .before .if1 .left)) (w .write-tree .ensures)
-    (sized l (size (a .conditions .now) (a .actions .now) (a .n)) (bytes k))
+    let l = treeEntries (a .conditions .now) (a .absences .now) (a .actions .now) (a .n) in
+    tree-fits (a .paired) l _ (a .tree .now) _ _ (omega (arith, bytes k, w .before .before .if1 .left)) (w .write-tree .ensures)
+    (sized (a .paired) l (size (a .conditions .now) (a .absences .now) (a .actions .now) (a .n)) (bytes k))
 
 pub fit-tree-spec : {M : Type 1} → statement M
 fit-tree-spec = tie.close (tie.spec tree-size-requires returns write-tree-requires same-length returns-2)

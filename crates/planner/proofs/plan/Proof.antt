@@ -21,10 +21,10 @@ abbrev Checked : Type 0
 Checked = tie.After-start-for
 
 abbrev start-of : Checked → tie.Start
-start-of c = c .before .before .before .before .before .before .before
+start-of c = c .before .before .before .before .before .before .before .before
 
 bytes : (c : Checked) → AreBytes (start-of c .args .table .now)
-bytes c = λ i. c .before .before .before .before .before .before .shared-slice-known .given i .fits
+bytes c = λ i. c .before .before .before .before .before .before .before .shared-slice-known .given i .fits
 
 -- ---- they passed
 
@@ -50,14 +50,14 @@ header-is c = ap accepted (sym (started c .2)) ∙ ap headed (table-is c)
 -- ---- the list and its tree are built
 
 abbrev Built : Type 0
-Built = tie.After-slice-known10
+Built = tie.After-slice-known12
 
 abbrev built-of : Built → tie.After-build
-built-of c = c .before .before .before .before .before .before .before .before .before .before
+built-of c = c .before .before .before .before .before .before .before .before .before .before .before .before
 
 -- the tables are lent on
-abbrev lending-of : tie.After-build-arg5 → Passed
-lending-of c = c .before .before .before .before .before .before
+abbrev lending-of : tie.After-build-arg6 → Passed
+lending-of c = c .before .before .before .before .before .before .before
 
 abbrev passed-of : Built → Passed
 passed-of c = lending-of (built-of c .before)
@@ -124,6 +124,9 @@ same-length-4 c = search needs
 same-length-5 : tie.Need-same-length-5
 same-length-5 c = search needs
 
+same-length-6 : tie.Need-same-length-6
+same-length-6 c = search needs
+
 returns-2 : tie.Need-returns-2
 returns-2 c =
     let x = c .before in
@@ -133,9 +136,6 @@ returns-2 c =
     plan-kept (a .table .now) (bytes (checked-of p)) (a .start) _ _ _ _ _
     (plan-stopped (a .table .now) (a .start) (started p .0) (started p .1) _ _ (a .tree .now) _ _ (built-of b .build .ensures (started p .0) (table-is p))
     _ _ (ap builtOf (x .x2 .given .1)))
-
-same-length-6 : tie.Need-same-length-6
-same-length-6 c = search needs
 
 same-length-7 : tie.Need-same-length-7
 same-length-7 c = search needs
@@ -148,6 +148,12 @@ same-length-9 c = search needs
 
 same-length-10 : tie.Need-same-length-10
 same-length-10 c = search needs
+
+same-length-11 : tie.Need-same-length-11
+same-length-11 c = search needs
+
+same-length-12 : tie.Need-same-length-12
+same-length-12 c = search needs
 
 returns-3 : tie.Need-returns-3
 returns-3 c =
@@ -176,10 +182,12 @@ plan-spec =
     same-length-3
     same-length-4
     same-length-5
-    returns-2
     same-length-6
+    returns-2
     same-length-7
     same-length-8
     same-length-9
     same-length-10
+    same-length-11
+    same-length-12
     returns-3)

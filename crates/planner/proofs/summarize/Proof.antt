@@ -25,7 +25,7 @@ abbrev Lent : Type 0
 Lent = tie.After-seconds
 
 abbrev start-of : Lent → tie.Start
-start-of c = c .before .before .before .before .before .before .before .before .before
+start-of c = c .before .before .before .before .before .before .before .before .before .before
 
 abbrev Loaded : Type 0
 Loaded = tie.After-load-jobs
@@ -34,7 +34,7 @@ abbrev jobs-of : Lent → List Job
 jobs-of c = jobsOf (readTable (start-of c .args .table .now))
 
 bytes : (c : Lent) → AreBytes (start-of c .args .table .now)
-bytes c = λ i. c .before .before .before .before .before .before .before .before .shared-slice-known .given i .fits
+bytes c = λ i. c .before .before .before .before .before .before .before .before .before .shared-slice-known .given i .fits
 
 count-is : (c : Lent) → start-of c .args .header .jobs ≡ length (jobs-of c)
 count-is c = header-count (start-of c .args .table .now) (bytes c) (start-of c .args .header) (start-of c .pre .0)
@@ -68,29 +68,32 @@ slice-aggregate-load-jobs-3 c = search needs
 slice-aggregate-load-jobs-4 : tie.Need-slice-aggregate-load-jobs-4
 slice-aggregate-load-jobs-4 c = search needs
 
+slice-aggregate-load-jobs-5 : tie.Need-slice-aggregate-load-jobs-5
+slice-aggregate-load-jobs-5 c = search needs
+
 load-jobs-requires : tie.Need-load-jobs-requires
-load-jobs-requires c κs = (count-is c, few c, few c, few c, few c)
+load-jobs-requires c κs = (count-is c, few c, few c, few c, few c, few c)
 
 array-share-prefix-seconds : tie.Need-array-share-prefix-seconds
-array-share-prefix-seconds c = let l = c .before .before .before .before in omega (arith, few (l .before))
+array-share-prefix-seconds c = let l = c .before .before .before .before .before in omega (arith, few (l .before))
 
 slice-aggregate-way-seconds : tie.Need-slice-aggregate-way-seconds
-slice-aggregate-way-seconds c = let l = c .before .before .before .before .before in sym (length-take-le _ _ (omega (arith, few (l .before))))
+slice-aggregate-way-seconds c = let l = c .before .before .before .before .before .before in sym (length-take-le _ _ (omega (arith, few (l .before))))
 
 -- the row of the jobs' seconds
 abbrev Summed : Type 0
 Summed = tie.After-seconds3
 
 abbrev loaded-of : Summed → Loaded
-loaded-of c = c .before .before .before .before .before
+loaded-of c = c .before .before .before .before .before .before
 
 abbrev row : Summed → List ℕ
-row c = take (start-of (loaded-of c .before) .args .header .jobs) (loaded-of c .load-jobs .last .1 .1 .1 .1 .1 .0)
+row c = take (start-of (loaded-of c .before) .args .header .jobs) (loaded-of c .load-jobs .last .1 .1 .1 .1 .1 .1 .0)
 
 row-is : (c : Summed) → row c ≡ map (λ j. j .seconds) (jobs-of (loaded-of c .before))
 row-is c =
     let l = loaded-of c in
-    ap (take (start-of (l .before) .args .header .jobs)) (l .load-jobs .ensures .3)
+    ap (take (start-of (l .before) .args .header .jobs)) (l .load-jobs .ensures .4)
     ∙ load-whole (λ j. j .seconds) (jobs-of (l .before)) _ (start-of (l .before) .args .header .jobs) (count-is (l .before))
 
 way-seconds-requires : tie.Need-way-seconds-requires
@@ -124,6 +127,7 @@ summarize-spec =
     slice-aggregate-load-jobs-2
     slice-aggregate-load-jobs-3
     slice-aggregate-load-jobs-4
+    slice-aggregate-load-jobs-5
     load-jobs-requires
     array-share-prefix-seconds
     slice-aggregate-way-seconds

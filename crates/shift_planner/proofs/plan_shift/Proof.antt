@@ -18,10 +18,10 @@ abbrev Read : Type 0
 Read = tie.After-read-table
 
 abbrev start-of : Read → tie.Start
-start-of c = c .before .before .before .before .before .before .before
+start-of c = c .before .before .before .before .before .before .before .before
 
 bytes : (c : Read) → AreBytes (start-of c .args .table .now)
-bytes c = λ i. c .before .before .before .before .before .before .shared-slice-known .given i .fits
+bytes c = λ i. c .before .before .before .before .before .before .before .shared-slice-known .given i .fits
 
 -- ---- it is sound
 
@@ -38,8 +38,8 @@ table-of : (c : Sound) → (t : Table) × (accepted t ≡ readTable (start-of (r
 table-of c = headed-sound (readTable (start-of (read-of c) .args .table .now)) (header-is c)
 
 -- the tables are lent on
-abbrev lending-of : tie.After-build-arg5 → Sound
-lending-of c = c .before .before .before .before .before .before
+abbrev lending-of : tie.After-build-arg6 → Sound
+lending-of c = c .before .before .before .before .before .before .before
 
 -- ---- the answers, in the order of the code
 
@@ -79,9 +79,12 @@ same-length-4 c = search needs
 same-length-5 : tie.Need-same-length-5
 same-length-5 c = search needs
 
+same-length-6 : tie.Need-same-length-6
+same-length-6 c = search needs
+
 returns-2 : tie.Need-returns-2
 returns-2 c =
-    let b = c .before .before .before .before .before .before .before .before .before .before in
+    let b = c .before .before .before .before .before .before .before .before .before .before .before .before in
     let h = lending-of (b .before) in
     let a = start-of (read-of h) .args in
     shift-kept (a .table .now) (bytes (read-of h)) _ _ _ _ _
@@ -101,4 +104,5 @@ plan-shift-spec =
     same-length-3
     same-length-4
     same-length-5
+    same-length-6
     returns-2)
