@@ -65,7 +65,8 @@ pub record Bounded (c : Card) : Type 0 where
   pub taken-bounded : c .taken ≤ maxTaken * c .reports
   pub planned-bounded : c .planned ≤ maxListed * c .reports
 
--- 17: "A need of the reported job is unread or absent." Then 18, of the card before the report.
+-- 17: "A need of the reported job is unread or absent."; document 02, W10: "One whose absent fact is held or unread is not applicable; its report is
+-- 17". Then 18, of the card before the report.
 unfoldable pub booked : Job → ℕ → Card → Checked Card
 booked j taken c =
     if applicable (actionOf j) (masksOf c) then (if exhausted c then refused 18 0 else accepted (withReport j taken c)) else refused 17 0

@@ -15,7 +15,7 @@ use Rattle.refusal.specs.CheckedLaws.{not-both, accepted-same, accepted-then, a
 use Rattle.numbers.specs.Numbers.{AreBytes}
 use Rattle.reading.specs.declared.Reading.{Reading}
 use Rattle.reading.specs.Reading.{sound, state}
-use Rattle.conditions.specs.Condition.{needed, applied}
+use Rattle.conditions.specs.Condition.{mentioned, needed, applied}
 use Rattle.conditions.specs.OnReading.{applicable, finished}
 use Rattle.conditions.specs.OnReadingLaws.{finished-state, finished-sound, unread-inapplicable}
 use Rattle.job.specs.declared.Job.{Job}
@@ -94,8 +94,8 @@ module _ (s : List ℕ) (x : JobReport) (c d : Card) (a : Accepted s x c d) wher
 -- ---- a report that was refused
 
 module _ (s : List ℕ) (x : JobReport) (c : Card) (t : Table) (e : accepted t ≡ tableFor s 0 (masksOf c)) where
-  -- A report of a job with an unread need is 17.
-  pub report-unread : x .job < length (t .jobs) → T (intersects (needed (actionOf (getD (t .jobs) (x .job) noJob))) (c .unread)) → reported s x c ≡ refused 17 0
+  -- A report of a job with an unread need, or an unread absent fact, is 17.
+  pub report-unread : x .job < length (t .jobs) → T (intersects (mentioned (needed (actionOf (getD (t .jobs) (x .job) noJob)))) (c .unread)) → reported s x c ≡ refused 17 0
   report-unread h n =
       let sound-masks = holds (sound (t .facts) (masksOf c)) (for-told s 0 (masksOf c) t e .1) in
       let missing = unread-inapplicable (actionOf (getD (t .jobs) (x .job) noJob)) (masksOf c) (t .facts) sound-masks n in
