@@ -2,8 +2,8 @@
 // prints the plan or the stop.
 use libc::STDOUT_FILENO;
 
-// FACTS and a JOB more than a table may have: no stop of a table lies further on, so the rest of a longer file is not read.
-const TABLE_BYTES: usize = commands::FACTS_SIZE + commands::JOB_SIZE * (table::MAX_JOBS + 1);
+// FACTS and a JOB more than a table may have, all of the wider kind: no stop of a table lies further on, so the rest of a longer file is not read.
+const TABLE_BYTES: usize = commands::FACTS_SIZE + commands::PAIRED_JOB_SIZE * (table::MAX_JOBS + 1);
 
 // A byte more than a start has tells a longer file.
 const START_BYTES: usize = program_text::START_SIZE + 1;

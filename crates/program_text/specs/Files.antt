@@ -21,7 +21,7 @@ widestIn stage (c ∷ cs) = max (if allowed stage (c .byte) then 1 + c .width el
 abbrev pub widest : Stage → ℕ
 widest stage = widestIn stage commands
 
--- the bytes of a table that decide on it: FACTS, 128 JOBs, and the 129th, which is a stop
+-- the bytes of a table that decide on it: FACTS, 128 JOBs, and the 129th, which is a stop, all of the wider kind
 abbrev pub tableFront : ℕ
 tableFront = widest First + widest Middle * (maxJobs + 1)
 

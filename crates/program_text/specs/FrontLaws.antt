@@ -17,16 +17,17 @@ use Rattle.commands.specs.declared.Command.{Command}
 use Rattle.commands.specs.declared.Width.{Width}
 use Rattle.commands.specs.declared.Width.the-variants.{Bytes, NoCommand}
 use Rattle.commands.specs.declared.Found.the-variants.{Whole, Cut}
-use Rattle.commands.specs.Commands.{GOAL, commands, widthIn, widthOf, operandsAt, commandAt}
+use Rattle.commands.specs.Commands.{PAIRED-JOB, GOAL, OPERANDS-AT, ABSENT-AT, ADDS-AT, PAIRED-ADDS-AT, MASK-WIDTH, EFFECTS-WIDTH, commands, widthIn, widthOf, operandsAt, commandAt}
 use Rattle.numbers.specs.Numbers.{fromBytes, numberAt}
 use Rattle.job.specs.declared.Job.{Job}
 use Rattle.table.specs.declared.Stage.{Stage}
 use Rattle.table.specs.declared.Stage.the-variants.{First, Middle, Last}
 use Rattle.table.specs.Table.{Table, maxJobs}
-use Rattle.job.specs.Job.{jobAt}
+use Rattle.job.specs.Job.{jobWith, jobBy, jobAt}
+use Rattle.job.specs.JobLaws.{size-most}
 use Rattle.job.specs.Validation.{validatedJob}
 use Rattle.table.specs.Read.{allowed, dueIn, due, readEnd, readGoal, readJobs, readTable, factsInRange}
-use Rattle.table.specs.ReadLaws.{facts-inside, end-inside, goal-inside, job-inside}
+use Rattle.table.specs.ReadLaws.{facts-inside, end-inside, goal-inside, job-due}
 use Rattle.planner.specs.PlanLaws.{plan-same}
 use Rattle.program_text.specs.Program.{capacity, treeRoom, startSize, startOf, filesPlan, programText}
 use Rattle.program_text.specs.Files.{widestIn, widest, tableFront, startFront, Holds}
@@ -94,15 +95,25 @@ module _ (p r : List ℕ) where
   number-same k at h =
       ap fromBytes (ap (take k) (drop-append-le at p r (omega arith)) ∙ take-append-le k (drop at p) r (rw length-drop (omega arith)))
 
+  -- of a job of the wider kind, and so of the other
   job-same : (at : ℕ) → at + widest Middle ≤ length p → jobAt (p ++ r) at ≡ jobAt p at
   unfolding jobAt
-  job-same at h =
-      rw (
-        number-same 8 (at + 1) (omega arith),
-        number-same 8 (at + 9) (omega arith),
-        number-same 8 (at + 17) (omega arith),
-        number-same 2 (at + 25) (omega arith),
-      )
+  job-same at h = rw (List·getD-append p r 0 at (omega arith)) (by (eqb (getD p at 0) PAIRED-JOB))
+    where
+      with-same : (paired : Bool) (absent absent′ adds : ℕ) → absent ≡ absent′ → at + (adds + EFFECTS-WIDTH) ≤ length p → ADDS-AT ≤ adds
+          → jobWith paired absent adds (p ++ r) at ≡ jobWith paired absent′ adds p at
+      with-same paired absent absent′ adds e k l =
+          rw (
+            e,
+            number-same 8 (at + OPERANDS-AT) (omega arith),
+            number-same 8 (at + adds) (omega arith),
+            number-same 8 (at + (adds + MASK-WIDTH)) (omega arith),
+            number-same 2 (at + (adds + MASK-WIDTH + MASK-WIDTH)) (omega arith),
+          )
+
+      by : (paired : Bool) → jobBy paired (p ++ r) at ≡ jobBy paired p at
+      by false = with-same false 0 0 ADDS-AT refl (omega arith) (omega arith)
+      by true = with-same true _ _ PAIRED-ADDS-AT (number-same 8 (at + ABSENT-AT) (omega arith)) (omega arith) (omega arith)
 
   -- END, with a byte after it
   end-same : (t : Table) (at : ℕ) → at + widest Last + 1 ≤ length p → readEnd (p ++ r) t at ≡ readEnd p t at
@@ -135,7 +146,7 @@ module _ (p r : List ℕ) where
       (λ q. goal-same facts js at (c .next) (omega arith) (omega (arith, goal-inside p at c e (eqb-true _ _ q) .0)))
       (λ q. rw (job-same at (omega arith))
       (then-same (validatedJob facts at (jobAt p at)) _ _
-      (λ j _. jobs-same facts left (js ++ (j ∷ [])) (c .next) (omega (arith, job-inside p at c e (eqb-false _ _ q) .0)))))))
+      (λ j _. jobs-same facts left (js ++ (j ∷ [])) (c .next) (let d = job-due p at c e (eqb-false _ _ q) in omega (arith, d .is-next, size-most (d .paired))))))))
 
   read-front : tableFront ≤ length p → readTable (p ++ r) ≡ readTable p
   unfolding readTable

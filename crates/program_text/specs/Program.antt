@@ -1,5 +1,6 @@
--- What the program prints, from the bytes of `bay.tab` and `start.bay`: document 01, "A trailer on the hitch".
+-- What the program prints, from the bytes of `bay.tab` and `start.bay`: document 01, "A trailer on the hitch"; document 02, W10.
 -- Definitions only.
+use mathlib.Core.Bool.{Bool}
 use mathlib.Core.List.{List}
 use Prim.Native.Nat.{ℕ}
 use lib.Dec.{eqb}
@@ -9,16 +10,21 @@ use Rattle.refusal.specs.Checked.{Checked, accepted, refused}
 use Rattle.numbers.specs.Numbers.{numberAt}
 use Rattle.reading.specs.declared.Reading.{Reading}
 use Rattle.table.specs.Read.{readTable}
-use Rattle.conditions.specs.Condition.{Condition}
+use Rattle.conditions.specs.declared.Condition.{Condition}
 use Rattle.planning.specs.Expansion.{Entry}
+use Rattle.expander.specs.Expands.{capacityOf}
 use Rattle.builder.specs.Plan.{Plan, noPlan, afterChecks}
 use Rattle.planner.specs.declared.Summary.{Summary}
 use Rattle.planner.specs.Plan.{planFor}
 use Rattle.plan_text.specs.Text.{planText, refusedText}
 
--- "It lends lists of 4,096 and a tree of 65,535 bytes."
-abbrev pub capacity : ℕ
-capacity = 4096
+-- "It lends lists of 4,096 and a tree of 65,535 bytes.", and the second masks are lent like the others
+abbrev pub lentEntries : ℕ
+lentEntries = 4096
+
+-- how many entries have room there, by whether the list is paired
+abbrev pub capacity : Bool → ℕ
+capacity paired = capacityOf paired lentEntries lentEntries lentEntries lentEntries lentEntries
 
 abbrev pub treeRoom : ℕ
 treeRoom = 65535
@@ -37,7 +43,7 @@ filesPlan table start =
 
 -- the plan's text, or "A stop prints one line only"
 abbrev pub answerText : Checked Summary → List (Entry Condition) → List ℕ
-answerText (accepted s) l = planText (s .entries) (s .bytes) l (s .jobs) (s .minutes)
+answerText (accepted s) l = planText (s .paired) (s .entries) (s .bytes) l (s .jobs) (s .minutes)
 answerText (refused number place) l = refusedText number place
 
 abbrev pub textOf : Plan Summary → List ℕ

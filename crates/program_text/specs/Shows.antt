@@ -14,12 +14,12 @@ use Rattle.planner.specs.declared.Planned.the-variants as P
 use Rattle.planner.specs.declared.Summary.{Summary}
 use Rattle.plan_text.specs.Text.{planText, refusedText, entryLine, otherLines}
 use Rattle.plan_text.specs.Writes.{shown}
-use Rattle.program_text.specs.Program.{capacity, startSize, startOf, programText}
+use Rattle.program_text.specs.Program.{lentEntries, startSize, startOf, programText}
 use Rattle.program_text.specs.Files.{tableFront, startFront, Holds}
 
--- room for the longest text
+-- room for the longest text: as many lines as any list has, each as long as one with both masks
 abbrev pub textRoom : ℕ
-textRoom = entryLine * capacity + otherLines
+textRoom = entryLine * lentEntries + otherLines
 
 -- the buffers that the files are read into, with the number of bytes that were read, and a slice for the text
 pub record Lent (table : List ℕ) (n : ℕ) (start : List ℕ) (m : ℕ) (out : List ℕ) : Type 0 where
@@ -48,7 +48,7 @@ pub record PlannedFrom (start : List ℕ) (r : Reading) : Type 0 where
 
 -- how many entries of the list tables a plan shows
 abbrev pub shownIn : Summary → Columns → ℕ
-shownIn s lists = shown (s .entries) (lists .conditions) (lists .actions) (lists .parents) (lists .depths)
+shownIn s lists = shown (s .paired) (s .entries) (lists .conditions) (lists .absences) (lists .actions) (lists .parents) (lists .depths)
 
 -- how many entries a plan's answer tells
 abbrev pub entriesIn : Planned → ℕ
@@ -57,10 +57,10 @@ entriesIn (P.Built s) = s .entries
 
 -- a list of no more than 4,096, and room for its text
 pub record Fits (planned : Planned) (out : List ℕ) : Type 0 where
-  pub entries : entriesIn planned ≤ capacity
+  pub entries : entriesIn planned ≤ lentEntries
   pub text-room : textRoom ≤ length out
 
 -- the text of a plan's answer, whose list stands in the list tables
 abbrev pub plannedText : Planned → Columns → List ℕ
 plannedText (P.Refused x) lists = refusedText (numberOf (x .reason)) (x .place)
-plannedText (P.Built s) lists = planText (s .entries) (s .bytes) (held lists (shownIn s lists)) (s .jobs) (s .minutes)
+plannedText (P.Built s) lists = planText (s .paired) (s .entries) (s .bytes) (held lists (shownIn s lists)) (s .jobs) (s .minutes)

@@ -1,4 +1,5 @@
-// The text of the program of document 01, "A trailer on the hitch", made from what was read of `bay.tab` and `start.bay`.
+// The text of the program of document 01, "A trailer on the hitch", made from what was read of `bay.tab` and `start.bay`. Document 02, W10, adds the
+// second masks.
 use planner::Planned;
 use reading::Reading;
 ghost use Rattle.expander.specs.Expands.{columns};
@@ -7,7 +8,7 @@ ghost use Rattle.program_text.specs.Shows.{Lent, Prints, Fits, Shows, Pl
 // The bytes of a start: two masks.
 pub const START_SIZE: usize = 16;
 
-// The entries of each list table that the program lends.
+// The entries of each list table that the program lends, that of the second masks included.
 pub const ENTRIES: usize = 4_096;
 
 const TREE_BYTES: usize = 65_535;
@@ -29,13 +30,15 @@ fn start_of(start: &[u8]) -> Reading
 fn write_answer(
     planned: Planned,
     conditions: &[u64],
+    absences: &[u64],
     actions: &[u8],
     parents: &[u16],
     depths: &[u16],
     out: &mut [u8],
 ) -> usize
     ensures { λ r. ⌜ (Fits planned (now (out .entry)) → Shows
-        (plannedText planned (columns (now (conditions .entry)) (now (actions .entry)) (now (parents .entry)) (now (depths .entry))))
+        (plannedText planned
+        (columns (now (conditions .entry)) (now (absences .entry)) (now (actions .entry)) (now (parents .entry)) (now (depths .entry))))
         (now (out .exit)) r) ⌝ }
 {
     match planned {
@@ -44,7 +47,9 @@ fn write_answer(
             plan_text::write_refused_text(refusal::number(reason), x.place, out)
         }
         Planned::Built(s) => plan_text::write_plan_text(
+            s.paired,
             conditions,
+            absences,
             actions,
             parents,
             depths,
@@ -64,6 +69,7 @@ pub fn write_program_text(table: &[u8], n: usize, start: &[u8], m: usize, out: &
     ensures { λ r. ⌜ Prints (now (table .entry)) n (now (start .entry)) m (now (out .exit)) r ⌝ }
 {
     let mut conditions = [0u64; ENTRIES];
+    let mut absences = [0u64; ENTRIES];
     let mut actions = [0u8; ENTRIES];
     let mut parents = [0u16; ENTRIES];
     let mut depths = [0u16; ENTRIES];
@@ -72,10 +78,19 @@ pub fn write_program_text(table: &[u8], n: usize, start: &[u8], m: usize, out: &
         &table[..n],
         start_of(&start[..m]),
         &mut conditions,
+        &mut absences,
         &mut actions,
         &mut parents,
         &mut depths,
         &mut tree,
     );
-    write_answer(planned, &conditions, &actions, &parents, &depths, out)
+    write_answer(
+        planned,
+        &conditions,
+        &absences,
+        &actions,
+        &parents,
+        &depths,
+        out,
+    )
 }

@@ -11,8 +11,8 @@ put-decimal-requires c κs = search needs
 put-byte-requires : tie.Need-put-byte-requires
 put-byte-requires c κs = search needs
 
-put-mask-requires : tie.Need-put-mask-requires
-put-mask-requires c κs = search needs
+put-condition-requires : tie.Need-put-condition-requires
+put-condition-requires c κs = search needs
 
 put-byte-requires-2 : tie.Need-put-byte-requires-2
 put-byte-requires-2 c κs = search needs
@@ -39,11 +39,11 @@ returns c =
     let parent = depth .before .before .before .before in
     let job = parent .before .before .before .before in
     let space = job .before .before .before .before in
-    let mask = space .before .before .before .before in
-    let first = mask .before .before .before .before in
+    let condition = space .before .before .before .before in
+    let first = condition .before .before .before .before in
     put-then (first .before .before .before .before .put-decimal .ensures)
     (put-then (first .put-byte .ensures)
-    (put-then (mask .put-mask .ensures)
+    (put-then (condition .put-condition .ensures)
     (put-then (space .put-byte2 .ensures)
     (put-then (job .put-job .ensures)
     (put-then (parent .put-next .ensures) (put-then (depth .put-next2 .ensures) (end .put-byte3 .ensures)))))))
@@ -54,7 +54,7 @@ put-entry-spec =
     (tie.spec
     put-decimal-requires
     put-byte-requires
-    put-mask-requires
+    put-condition-requires
     put-byte-requires-2
     put-job-requires
     put-next-requires

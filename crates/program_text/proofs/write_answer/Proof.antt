@@ -3,11 +3,14 @@
 use borrow.Author.Needs.{needs}
 use native.Mathlib.Omega.{arith}
 use Prim.Native.Nat.{ℕ, _^_, _≤_, _<_}
+use lib.ListN.{length}
 use Rattle.refusal.specs.Numbers.{numberOf}
-use Rattle.planning.specs.Columns.{entryAt}
 use Rattle.expander.specs.Expands.{Columns, columns}
+use Rattle.expander.specs.ExpandsLaws.{entryOf}
+use Rattle.plan_text.specs.Writes.{listed}
+use Rattle.plan_text.specs.WriteLaws.{with-fewer}
 use Rattle.plan_text.specs.TextLaws.{refused-length, plan-length, Small}
-use Rattle.program_text.specs.Program.{capacity}
+use Rattle.program_text.specs.Program.{lentEntries}
 use Rattle.program_text.specs.Shows.{shownIn}
 use Rattle.program_text.specs.ProgramLaws.{shown-whole}
 use Rattle.program_text.proofs.write_answer.Statement.{statement}
@@ -18,17 +21,17 @@ abbrev Known : Type 0
 Known = tie.After-slice-known
 
 abbrev entry-of : Known → tie.Start
-entry-of k = k .before .before .before .before .before
+entry-of k = k .before .before .before .before .before .before
 
 abbrev lists : Known → Columns
-lists k = let a = entry-of k .args in columns (a .conditions .now) (a .actions .now) (a .parents .now) (a .depths .now)
+lists k = let a = entry-of k .args in columns (a .conditions .now) (a .absences .now) (a .actions .now) (a .parents .now) (a .depths .now)
 
-small : (k : Known) (i : ℕ) → Small (entryAt (lists k .conditions) (lists k .actions) (lists k .parents) (lists k .depths) i)
+small : (k : Known) (i : ℕ) → Small (entryOf (lists k) i)
 small k i =
     record {
-      action-small = omega (arith, k .before .before .before .shared-slice-known2 .given i);
-      parent-small = omega (arith, k .before .before .shared-slice-known3 .given i);
-      depth-small = omega (arith, k .before .shared-slice-known4 .given i);
+      action-small = omega (arith, k .before .before .before .shared-slice-known3 .given i);
+      parent-small = omega (arith, k .before .before .shared-slice-known4 .given i);
+      depth-small = omega (arith, k .before .shared-slice-known5 .given i);
     }
 
 enum-known-planned : tie.Need-enum-known-planned
@@ -72,12 +75,13 @@ returns-2 c fits =
     let is = told .before .planned2 .given .1 in
     let l = lists k in
     let n = shownIn s l in
-    let most : n ≤ capacity = omega (arith, rw is at (fits .entries)) in
+    let fewer = with-fewer (s .paired) (listed (s .entries) (l .conditions) (l .actions) (l .parents) (l .depths)) (length (l .absences)) in
+    let most : n ≤ lentEntries = omega (arith, fewer, rw is at (fits .entries)) in
     let g = told .known-told2 .given in
     let size =
-    plan-length (s .entries) (s .bytes) (entryAt (l .conditions) (l .actions) (l .parents) (l .depths)) n (s .jobs) (s .minutes)
+    plan-length (s .paired) (entryOf l) (s .entries) (s .bytes) n (s .jobs) (s .minutes)
     (omega (arith, g)) (omega (arith, g)) (omega (arith, g)) (omega (arith, g)) (omega (arith, most)) (λ i h. small k i) in
-    rw is (shown-whole (w .ensures) (omega (arith, fits .text-room, most, size)) (w .kept .1 .1 .1 .1 .1 .1 .1 .1 .0))
+    rw is (shown-whole (w .ensures) (omega (arith, fits .text-room, most, size)) (w .kept .1 .1 .1 .1 .1 .1 .1 .1 .1 .1 .0))
 
 pub write-answer-spec : {M : Type 1} → statement M
 write-answer-spec =

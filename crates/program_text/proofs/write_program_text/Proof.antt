@@ -15,14 +15,14 @@ abbrev entry-of : tie.After-slice-known → tie.Start
 entry-of c = c .before .before .before
 
 abbrev read-of : tie.After-plan → tie.After-start-of
-read-of c = c .before .before .before .before .before .before
+read-of c = c .before .before .before .before .before .before .before
 
 abbrev lent-of : tie.After-plan → tie.Start
 lent-of c = entry-of (read-of c .before .before .before)
 
 -- the list tables are lent once more
 abbrev plan-of : tie.After-depths3 → tie.After-plan
-plan-of c = c .before .before .before .before .before .before .before .before .before
+plan-of c = c .before .before .before .before .before .before .before .before .before .before .before
 
 -- ---- the answers, in the order of the code
 
@@ -50,6 +50,9 @@ slice-aggregate-plan-5 c = search needs
 slice-aggregate-plan-6 : tie.Need-slice-aggregate-plan-6
 slice-aggregate-plan-6 c = search needs
 
+slice-aggregate-plan-7 : tie.Need-slice-aggregate-plan-7
+slice-aggregate-plan-7 c = search needs
+
 plan-requires : tie.Need-plan-requires
 plan-requires c κs = search needs
 
@@ -65,6 +68,9 @@ slice-aggregate-write-answer-3 c = search needs
 slice-aggregate-write-answer-4 : tie.Need-slice-aggregate-write-answer-4
 slice-aggregate-write-answer-4 c = search needs
 
+slice-aggregate-write-answer-5 : tie.Need-slice-aggregate-write-answer-5
+slice-aggregate-write-answer-5 c = search needs
+
 write-answer-requires : tie.Need-write-answer-requires
 write-answer-requires c κs = search needs
 
@@ -79,7 +85,7 @@ returns c =
     let l = s .pre in
     let told =
     planned-told (take (s .args .n) (s .args .table .now)) (take (s .args .m) (s .args .start .now)) _ (read-of p .start-of .ensures)
-    (record { conditions-lent = refl; actions-lent = refl; parents-lent = refl; depths-lent = refl; tree-lent = refl }) _ (p .plan .ensures) in
+    (record { conditions-lent = refl; absences-lent = refl; actions-lent = refl; parents-lent = refl; depths-lent = refl; tree-lent = refl }) _ (p .plan .ensures) in
     let a = w .write-answer .ensures (record { entries = told .entries; text-room = l .text-room }) in
     record {
       within = a .within;
@@ -99,11 +105,13 @@ write-program-text-spec =
     slice-aggregate-plan-4
     slice-aggregate-plan-5
     slice-aggregate-plan-6
+    slice-aggregate-plan-7
     plan-requires
     slice-aggregate-write-answer
     slice-aggregate-write-answer-2
     slice-aggregate-write-answer-3
     slice-aggregate-write-answer-4
+    slice-aggregate-write-answer-5
     write-answer-requires
     same-length
     returns)
