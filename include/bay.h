@@ -37,18 +37,28 @@ extern "C" {
 #define BAY_MAX_FACTS 64
 #define BAY_MAX_JOBS 128
 #define BAY_MAX_SECONDS 5400      /* that a table may list a job with */
-#define BAY_MAX_TABLE_BYTES 3468  /* of a sound table */
+#define BAY_MAX_TABLE_BYTES 4492  /* of a sound table: 128 jobs by BAY_PAIRED_JOB */
 #define BAY_MAX_ENTRIES 4096      /* that a plan lists */
+#define BAY_MAX_PAIR_ENTRIES 2978 /* that it lists of a paired table */
 #define BAY_MAX_TREE_BYTES 65535  /* of a tree that is ticked */
 #define BAY_NO_JOB 255            /* the job of entry 0 */
 
-/* Why a call is refused. F is the table's number of facts. The calls check in the order of the numbers, but for 19, which a job is
- * judged by after 6; of a table and of a tree whatever is wrong earlier in its bytes comes first.
+/* The commands that a job stands in a table by. A table with a BAY_PAIRED_JOB, even one that needs no fact absent, is called paired: its
+ * conditions are pairs of masks, the facts to be held and the facts to be absent. In any other table the second masks are all 0, and
+ * nothing is lent, written or counted for them. */
+enum bay_job_command {
+    BAY_JOB = 0x20,       /* needs, adds, deletes, seconds */
+    BAY_PAIRED_JOB = 0x21 /* needs, absent, adds, deletes, seconds: it also needs facts to be absent */
+};
+
+/* Why a call is refused. F is the table's number of facts. The calls check in the order of the numbers, but for 19 and 22: a job is judged
+ * by 4, 5, 6, 19 and 22 in this order; of a table and of a tree whatever is wrong earlier in its bytes comes first.
  *
  * The place of a refusal is
- *   - the offset of the faulty command for 1 to 7, 13 to 15 and 19; but where a command byte is missing (1, 13) the length of the
+ *   - the offset of the faulty command for 1 to 7, 13 to 15, 19 and 22; but where a command byte is missing (1, 13) the length of the
  *     table or tree; where bytes follow END (7, 13) the first of them; and 0 for a tree of more than BAY_MAX_TREE_BYTES (13);
  *   - the number of entries stored for 10 to 12;
+ *   - the number of the job for BAY_UNWRITABLE;
  *   - 0 for all others. */
 enum bay_refusal {
     BAY_OK = 0,
@@ -68,14 +78,16 @@ enum bay_refusal {
     BAY_TREE_TOO_DEEP = 14,             /* a tree node is deeper than 16 */
     BAY_TREE_OPERAND_OUT_OF_RANGE = 15, /* a tree mask has a bit at or above F, or a job number is not below the job count */
     BAY_NO_SUCH_JOB = 16,               /* a number names no job of the table */
-    BAY_NEED_NOT_HELD = 17,             /* a need of the reported job is unread or absent */
+    BAY_NEED_NOT_HELD = 17,             /* a need of the reported job is unread or absent, or its absent fact is unread or held */
     BAY_CARD_EXHAUSTED = 18,            /* the card has 65,535 reports, its taken sum exceeds 65,535 times its count, or its planned
                                            sum 5,400 times its count */
     BAY_JOB_TOO_LONG = 19,              /* a job is listed with more than 5,400 seconds */
+    BAY_NEEDS_CONTRADICT = 22,          /* a job needs a fact both held and absent */
 
     /* Of bay_write_table alone. */
-    BAY_TOO_SHORT = 100, /* the lent slice is shorter than the table */
-    BAY_UNEVEN = 101,    /* the columns differ in length */
+    BAY_TOO_SHORT = 100,  /* the lent slice is shorter than the table */
+    BAY_UNEVEN = 101,     /* the columns differ in length */
+    BAY_UNWRITABLE = 103, /* a job's command is none of bay_job_command, or is BAY_JOB and the job needs a fact absent */
 
     /* Of bay_report alone, before anything else is looked at. */
     BAY_SECONDS_OUT_OF_RANGE = 102 /* more than 65,535 seconds are reported */
@@ -128,8 +140,8 @@ static inline struct bay_done bay_answer_done(const uint64_t *answer) {
 
 /* ---- the table */
 
-/* Reads a table. answer: 0, the number of facts, the number of jobs, the goal. */
-uint64_t bay_read_table(const uint8_t *table, size_t table_len, uint64_t answer[4]);
+/* Reads a table. answer: 0, the number of facts, the number of jobs, the goal, 1 if it is paired and else 0. */
+uint64_t bay_read_table(const uint8_t *table, size_t table_len, uint64_t answer[5]);
 
 struct bay_header {
     enum bay_refusal refusal;
@@ -137,10 +149,11 @@ struct bay_header {
     size_t facts;
     size_t jobs;
     uint64_t goal;
+    int paired; /* has it a BAY_PAIRED_JOB? */
 };
 
 static inline struct bay_header bay_table_read(struct bay_table table) {
-    uint64_t answer[4];
+    uint64_t answer[5];
     struct bay_header header;
     bay_read_table(table.bytes, table.length, answer);
     header.refusal = bay_answer_refusal(answer);
@@ -148,11 +161,13 @@ static inline struct bay_header bay_table_read(struct bay_table table) {
     header.facts = (size_t)bay_answer_value(answer, 1);
     header.jobs = (size_t)bay_answer_value(answer, 2);
     header.goal = bay_answer_value(answer, 3);
+    header.paired = bay_answer_value(answer, 4) == 1;
     return header;
 }
 
-/* Reads one job of a table by its number; 16 where the table has no such job. answer: 0, needs, adds, deletes, seconds. */
-uint64_t bay_read_job(const uint8_t *table, size_t table_len, size_t job, uint64_t answer[5]);
+/* Reads one job of a table by its number; 16 where the table has no such job. answer: 0, needs, adds, deletes, seconds, the facts that it
+ * needs absent, its command (BAY_JOB, which needs none absent, or BAY_PAIRED_JOB). */
+uint64_t bay_read_job(const uint8_t *table, size_t table_len, size_t job, uint64_t answer[7]);
 
 struct bay_job {
     enum bay_refusal refusal;
@@ -161,10 +176,12 @@ struct bay_job {
     uint64_t adds;
     uint64_t deletes;
     uint16_t seconds;
+    uint64_t absent;
+    uint8_t command; /* of bay_job_command; 0 where the call was refused */
 };
 
 static inline struct bay_job bay_table_read_job(struct bay_table table, size_t number) {
-    uint64_t answer[5];
+    uint64_t answer[7];
     struct bay_job job;
     bay_read_job(table.bytes, table.length, number, answer);
     job.refusal = bay_answer_refusal(answer);
@@ -173,21 +190,28 @@ static inline struct bay_job bay_table_read_job(struct bay_table table, size_t n
     job.adds = bay_answer_value(answer, 2);
     job.deletes = bay_answer_value(answer, 3);
     job.seconds = (uint16_t)bay_answer_value(answer, 4);
+    job.absent = bay_answer_value(answer, 5);
+    job.command = (uint8_t)bay_answer_value(answer, 6);
     return job;
 }
 
-/* Writes a table. Job i has its masks at i of needs, adds and deletes and its seconds at i of seconds.
+/* Writes a table. Job i has its command at i of commands, its masks at i of needs, absent, adds and deletes, and its seconds at i of
+ * seconds; with BAY_JOB its absent facts are 0.
  * answer: 0, the number of bytes written from the beginning of out. The refusals are those that reading the table would give; a number
  * of facts that no byte holds is 3 like any other outside 1 to 64.
- * Two more answers leave out untouched: BAY_UNEVEN with 0 where the four columns differ in length, before any other check, and
- * BAY_TOO_SHORT with the number of bytes that it needs, after all others. */
-uint64_t bay_write_table(size_t facts, const uint64_t *needs, size_t needs_len, const uint64_t *adds, size_t adds_len,
-                         const uint64_t *deletes, size_t deletes_len, const uint16_t *seconds, size_t seconds_len,
-                         uint64_t goal, uint8_t *out, size_t out_len, uint64_t answer[2]);
+ * Three more answers leave out untouched: BAY_UNEVEN with 0 where the six columns differ in length, before any other check; BAY_UNWRITABLE
+ * with the number of the first job that no bytes stand for, after that; and BAY_TOO_SHORT with the number of bytes that it needs, after
+ * all others. */
+uint64_t bay_write_table(size_t facts, const uint8_t *commands, size_t commands_len, const uint64_t *needs, size_t needs_len,
+                         const uint64_t *absent, size_t absent_len, const uint64_t *adds, size_t adds_len, const uint64_t *deletes,
+                         size_t deletes_len, const uint16_t *seconds, size_t seconds_len, uint64_t goal, uint8_t *out,
+                         size_t out_len, uint64_t answer[2]);
 
 /* The columns of so many jobs. */
 struct bay_columns {
+    const uint8_t *commands;
     const uint64_t *needs;
+    const uint64_t *absent;
     const uint64_t *adds;
     const uint64_t *deletes;
     const uint16_t *seconds;
@@ -204,8 +228,8 @@ static inline struct bay_written bay_table_write(size_t facts, struct bay_column
                                                  size_t out_length) {
     uint64_t answer[2];
     struct bay_written written;
-    bay_write_table(facts, columns.needs, columns.jobs, columns.adds, columns.jobs, columns.deletes, columns.jobs,
-                    columns.seconds, columns.jobs, goal, out, out_length, answer);
+    bay_write_table(facts, columns.commands, columns.jobs, columns.needs, columns.jobs, columns.absent, columns.jobs, columns.adds,
+                    columns.jobs, columns.deletes, columns.jobs, columns.seconds, columns.jobs, goal, out, out_length, answer);
     written.refusal = bay_answer_refusal(answer);
     written.place = written.refusal == BAY_TOO_SHORT ? 0 : bay_answer_place(answer);
     written.bytes = written.refusal == BAY_TOO_SHORT ? (size_t)answer[1] : (size_t)bay_answer_value(answer, 1);
@@ -215,21 +239,28 @@ static inline struct bay_written bay_table_write(size_t facts, struct bay_column
 /* ---- the plan */
 
 /* Plans from a start: lists the conditions from which jobs lead to the goal, and writes the list's tree.
- * Entry i of the list stands at i of conditions, jobs, parents and depths. The shortest of the four bounds the list, and
- * BAY_MAX_ENTRIES does. answer: 0, entries, bytes of the tree, and of the way from the start its jobs and its time in minutes.
+ * Entry i of the list stands at i of conditions, jobs, parents and depths; of a paired table the facts to be absent at i of absences.
+ * The shortest of the four bounds the list, and BAY_MAX_ENTRIES does; of a paired table the shortest of the five, and
+ * BAY_MAX_PAIR_ENTRIES. Under any other table absences is neither read nor written nor counted, and may have 0 elements.
+ * The tree of n entries has 14 * n - 1 bytes, of a paired table 22 * n - 1.
+ * answer: 0, entries, bytes of the tree, of the way from the start its jobs and its time in minutes, and 1 if the table is paired, so that
+ * absences has entries, and else 0.
  * Nothing is written past the list and the tree. After 10, 11 and 12 the list tables hold the entries stored, and the tree is
  * untouched. */
 uint64_t bay_plan(const uint8_t *table, size_t table_len, uint64_t held, uint64_t unread, uint64_t *conditions,
-                  size_t conditions_len, uint8_t *jobs, size_t jobs_len, uint16_t *parents, size_t parents_len, uint16_t *depths,
-                  size_t depths_len, uint8_t *tree, size_t tree_len, uint64_t answer[5]);
+                  size_t conditions_len, uint64_t *absences, size_t absences_len, uint8_t *jobs, size_t jobs_len, uint16_t *parents,
+                  size_t parents_len, uint16_t *depths, size_t depths_len, uint8_t *tree, size_t tree_len, uint64_t answer[6]);
 
-/* What a plan is lent: four list tables of the same length, and the tree. */
+/* What a plan is lent: four list tables of the same length, a fifth for paired tables, and the tree. The fifth has a number of its own. For
+ * a table that is not paired 0 is enough; the pointer is then any that is aligned and not null, that of conditions say. */
 struct bay_plan_room {
     uint64_t *conditions;
     uint8_t *jobs;
     uint16_t *parents;
     uint16_t *depths;
     size_t entries;
+    uint64_t *absences;
+    size_t absences_entries;
     uint8_t *tree;
     size_t tree_bytes;
 };
@@ -241,61 +272,84 @@ struct bay_planned {
     size_t tree_bytes;
     size_t way_jobs;
     uint32_t way_minutes;
+    int paired; /* has absences the entries' second masks? */
 };
 
 static inline struct bay_planned bay_tree_plan(struct bay_table table, struct bay_reading start, struct bay_plan_room room) {
-    uint64_t answer[5];
+    uint64_t answer[6];
     struct bay_planned planned;
-    bay_plan(table.bytes, table.length, start.held, start.unread, room.conditions, room.entries, room.jobs, room.entries,
-             room.parents, room.entries, room.depths, room.entries, room.tree, room.tree_bytes, answer);
+    bay_plan(table.bytes, table.length, start.held, start.unread, room.conditions, room.entries, room.absences,
+             room.absences_entries, room.jobs, room.entries, room.parents, room.entries, room.depths, room.entries, room.tree,
+             room.tree_bytes, answer);
     planned.refusal = bay_answer_refusal(answer);
     planned.place = bay_answer_place(answer);
     planned.entries = (size_t)bay_answer_value(answer, 1);
     planned.tree_bytes = (size_t)bay_answer_value(answer, 2);
     planned.way_jobs = (size_t)bay_answer_value(answer, 3);
     planned.way_minutes = (uint32_t)bay_answer_value(answer, 4);
+    planned.paired = bay_answer_value(answer, 5) == 1;
     return planned;
 }
 
 /* Plans for the whole shift: no start ends the list, every entry is expanded, and one tree serves every vehicle. A state meets some
  * condition of it exactly when a sequence of jobs leads from the state to the goal. The list tables and the tree are lent and left
- * as for bay_plan; 8, 9 and 11 do not arise. answer: 0, entries, bytes of the tree. */
-uint64_t bay_plan_shift(const uint8_t *table, size_t table_len, uint64_t *conditions, size_t conditions_len, uint8_t *jobs,
-                        size_t jobs_len, uint16_t *parents, size_t parents_len, uint16_t *depths, size_t depths_len, uint8_t *tree,
-                        size_t tree_len, uint64_t answer[3]);
+ * as for bay_plan; 8, 9 and 11 do not arise. answer: 0, entries, bytes of the tree, 1 if the table is paired and else 0. */
+uint64_t bay_plan_shift(const uint8_t *table, size_t table_len, uint64_t *conditions, size_t conditions_len, uint64_t *absences,
+                        size_t absences_len, uint8_t *jobs, size_t jobs_len, uint16_t *parents, size_t parents_len,
+                        uint16_t *depths, size_t depths_len, uint8_t *tree, size_t tree_len, uint64_t answer[4]);
 
 struct bay_shift_planned {
     enum bay_refusal refusal;
     size_t place;
     size_t entries;
     size_t tree_bytes;
+    int paired;
 };
 
 static inline struct bay_shift_planned bay_tree_plan_shift(struct bay_table table, struct bay_plan_room room) {
-    uint64_t answer[3];
+    uint64_t answer[4];
     struct bay_shift_planned planned;
-    bay_plan_shift(table.bytes, table.length, room.conditions, room.entries, room.jobs, room.entries, room.parents, room.entries,
-                   room.depths, room.entries, room.tree, room.tree_bytes, answer);
+    bay_plan_shift(table.bytes, table.length, room.conditions, room.entries, room.absences, room.absences_entries, room.jobs,
+                   room.entries, room.parents, room.entries, room.depths, room.entries, room.tree, room.tree_bytes, answer);
     planned.refusal = bay_answer_refusal(answer);
     planned.place = bay_answer_place(answer);
     planned.entries = (size_t)bay_answer_value(answer, 1);
     planned.tree_bytes = (size_t)bay_answer_value(answer, 2);
+    planned.paired = bay_answer_value(answer, 3) == 1;
     return planned;
 }
 
 /* The search that a plan makes of each new condition, on any list: the newest entry whose condition is a part of the given one, that
- * is, wants no other fact. answer: 0, 1 and the entry, or 0 and 0 where there is none. It is never refused. */
-uint64_t bay_newest_weaker(const uint64_t *listed, size_t listed_len, uint64_t condition, uint64_t answer[3]);
+ * is, wants no other fact held and no other absent. Entry i wants the facts of listed[i] held and those of absences[i] absent, of which
+ * there may be fewer than of listed: an entry past their end wants nothing absent. answer: 0, 1 and the entry, or 0 and 0 where there is
+ * none. It is never refused. */
+uint64_t bay_newest_weaker(const uint64_t *listed, size_t listed_len, const uint64_t *absences, size_t absences_len,
+                           uint64_t present, uint64_t absent, uint64_t answer[3]);
+
+/* The facts to be held and the facts to be absent. */
+struct bay_condition {
+    uint64_t present;
+    uint64_t absent;
+};
+
+/* A list of conditions: the first masks, and the second of its first entries or of all. */
+struct bay_list {
+    const uint64_t *conditions;
+    size_t entries;
+    const uint64_t *absences;
+    size_t absences_entries;
+};
 
 struct bay_found {
     int any;      /* is there one? */
     size_t entry; /* 0 where there is none */
 };
 
-static inline struct bay_found bay_list_newest_weaker(const uint64_t *listed, size_t entries, uint64_t condition) {
+static inline struct bay_found bay_list_newest_weaker(struct bay_list list, struct bay_condition condition) {
     uint64_t answer[3];
     struct bay_found found;
-    bay_newest_weaker(listed, entries, condition, answer);
+    bay_newest_weaker(list.conditions, list.entries, list.absences, list.absences_entries, condition.present, condition.absent,
+                      answer);
     found.any = answer[1] == 1;
     found.entry = (size_t)answer[2];
     return found;
@@ -307,12 +361,12 @@ enum bay_status {
     BAY_SUCCESS = 0,
     BAY_FAILURE = 1,
     BAY_RUNNING = 2,    /* with the number of the job to do next */
-    BAY_UNSETTLED = 3,  /* with the mask of the facts to read first */
+    BAY_UNSETTLED = 3,  /* with the mask of the facts to read first, to be held or to be absent */
     BAY_NO_STATUS = 255 /* in the result of a refused tick; no word of an answer is this */
 };
 
-/* Ticks a tree on a reading. Give it the bytes of one tree and none past them. answer: 0, a status of the first four, the job or mask
- * (0 where there is none). */
+/* Ticks a tree on a reading. Give it the bytes of one tree and none past them; conditions of one mask and of two may stand in any tree,
+ * under any table. answer: 0, a status of the first four, the job or mask (0 where there is none). */
 uint64_t bay_tick(const uint8_t *table, size_t table_len, const uint8_t *tree, size_t tree_len, uint64_t held, uint64_t unread,
                   uint64_t answer[3]);
 
@@ -368,8 +422,8 @@ static inline struct bay_done bay_card_read_outside(struct bay_card *card, struc
     return bay_answer_done(answer);
 }
 
-/* Reports a finished job and the seconds that it took. A number that names no job is 16, and more than 65,535 seconds are 102. answer:
- * 0, 0. */
+/* Reports a finished job and the seconds that it took. A number that names no job is 16, one whose needs are not all held, or whose absent
+ * facts are not all read and absent, is 17, and more than 65,535 seconds are 102. answer: 0, 0. */
 uint64_t bay_report(const uint8_t *table, size_t table_len, size_t job, size_t seconds, uint64_t *card_held,
                     uint64_t *card_unread, uint16_t *card_reports, uint32_t *card_taken, uint32_t *card_planned, uint64_t answer[2]);
 

@@ -18,16 +18,16 @@ use Rattle.bay_plan.specs.PlanWords.{summaryWords, sizeWords, PlanAnswer
 
 -- a plan for a start
 pub plan-answered : {table : List ℕ} {start : Reading} {before after : Columns} {treeBefore treeAfter lent : List ℕ} {r : Planned}
-    → Plans table start before after treeBefore treeAfter r → lent ≡ words 5 summaryWords (plannedOf r)
+    → Plans table start before after treeBefore treeAfter r → lent ≡ words 6 summaryWords (plannedOf r)
     → PlanAnswered table start (planFor table start (room before) (length treeBefore)) before after treeBefore treeAfter lent (getD lent 0 0)
 plan-answered plans e =
     let told = plans .writes .answer-and-tree .answer in
-    record { writes = rw told at (plans .writes); answers = answered-by (e ∙ ap (words 5 summaryWords) told); keeps = plans .keeps }
+    record { writes = rw told at (plans .writes); answers = answered-by (e ∙ ap (words 6 summaryWords) told); keeps = plans .keeps }
 
 -- a plan for the whole shift
 pub shift-answered : {table : List ℕ} {before after : Columns} {treeBefore treeAfter lent : List ℕ} {r : Built}
-    → PlansShift table before after treeBefore treeAfter r → lent ≡ words 3 sizeWords (builtOf r)
+    → PlansShift table before after treeBefore treeAfter r → lent ≡ words 4 sizeWords (builtOf r)
     → ShiftAnswered table (planShift table (room before) (length treeBefore)) before after treeBefore treeAfter lent (getD lent 0 0)
 shift-answered plans e =
     let told = plans .writes .answer-and-tree .answer in
-    record { writes = rw told at (plans .writes); answers = answered-by (e ∙ ap (words 3 sizeWords) told); serves = plans .serves }
+    record { writes = rw told at (plans .writes); answers = answered-by (e ∙ ap (words 4 sizeWords) told); serves = plans .serves }

@@ -6,7 +6,7 @@ use lib.ListN.{length}
 use Rattle.refusal.specs.Checked.{accepted}
 use Rattle.conditions.specs.declared.Found.{Found}
 use Rattle.conditions.specs.declared.Found.the-variants.{At, Nowhere}
-use Rattle.conditions.specs.Condition.{Condition}
+use Rattle.conditions.specs.declared.Condition.{Condition}
 use Rattle.conditions.specs.Search.{Searches}
 use Rattle.bay_words.specs.Words.{words, Answered}
 
@@ -15,8 +15,8 @@ abbrev pub foundWords : Found → List ℕ
 foundWords Nowhere = 0 ∷ 0 ∷ []
 foundWords (At entry) = 1 ∷ entry ∷ []
 
--- what a search of a whole list promises, with its answer
-pub record SearchAnswered (listed : List ℕ) (c : Condition) (lent : List ℕ) (result : ℕ) : Type 0 where
+-- what a search of a whole list promises, with its answer; past the end of the second masks nothing is to be absent
+pub record SearchAnswered (listed absences : List ℕ) (c : Condition) (lent : List ℕ) (result : ℕ) : Type 0 where
   pub found : Found
-  pub searches : Searches listed (length listed) c found
+  pub searches : Searches listed absences (length listed) c found
   pub answers : Answered (words 3 foundWords (accepted found)) lent result

@@ -1,5 +1,6 @@
 // The C interface to the search among listed conditions: bay_newest_weaker of include/bay.h, over the proved function of the same meaning. It
 // takes every input.
+use conditions::Condition;
 use conditions::Found;
 ghost use mathlib.Core.Path.{_≡_};
 ghost use Rattle.refusal.specs.Checked.{accepted};
@@ -16,10 +17,17 @@ fn found_words(found: Found) -> [u64; 3]
 }
 
 #[no_mangle]
-pub extern "C" fn bay_newest_weaker(listed: &[u64], condition: u64, answer: &mut [u64; 3]) -> u64
-    ensures { λ r. ⌜ SearchAnswered (now (listed .entry)) condition (now (answer .exit)) r ⌝ }
+pub extern "C" fn bay_newest_weaker(
+    listed: &[u64],
+    absences: &[u64],
+    present: u64,
+    absent: u64,
+    answer: &mut [u64; 3],
+) -> u64
+    ensures { λ r. ⌜ SearchAnswered (now (listed .entry)) (now (absences .entry)) (record { present = present; absent = absent }) (now (answer .exit)) r ⌝ }
 {
-    let found = found_words(conditions::newest_weaker(listed, listed.len(), condition));
+    let condition = Condition { present, absent };
+    let found = found_words(conditions::newest_weaker(listed, absences, listed.len(), condition));
     *answer = found;
     found[0]
 }

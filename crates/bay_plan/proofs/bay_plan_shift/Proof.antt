@@ -29,9 +29,12 @@ same-length-4 c = search needs
 same-length-5 : tie.Need-same-length-5
 same-length-5 c = search needs
 
+same-length-6 : tie.Need-same-length-6
+same-length-6 c = search needs
+
 returns : tie.Need-returns
 returns c =
-    let planned = c .before .before .before .before .before .before .before .before .before .before .before .plan-shift in
+    let planned = c .before .before .before .before .before .before .before .before .before .before .before .before .before .plan-shift in
     shift-answered (planned .ensures) (c .shift-words .ensures)
 
 pub bay-plan-shift-spec : {M : Type 1} → statement M
@@ -46,4 +49,5 @@ bay-plan-shift-spec =
     same-length-3
     same-length-4
     same-length-5
+    same-length-6
     returns)

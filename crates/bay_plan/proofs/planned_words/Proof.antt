@@ -10,6 +10,9 @@ enum-known-planned c = search needs
 cast-t8 : tie.Need-cast-t8
 cast-t8 c = search needs
 
+flag-word-requires : tie.Need-flag-word-requires
+flag-word-requires c κs = search needs
+
 enum-known-planned-2 : tie.Need-enum-known-planned-2
 enum-known-planned-2 c = search needs
 
@@ -17,7 +20,7 @@ number-of-requires : tie.Need-number-of-requires
 number-of-requires c κs = search needs
 
 returns : tie.Need-returns
-returns c = rw (c .before .before .planned .given .1)
+returns c = rw (c .before .before .before .planned .given .1, c .flag-word .ensures)
 
 returns-2 : tie.Need-returns-2
 returns-2 c = rw (c .before .before .planned2 .given .1, c .number-of .ensures)
@@ -25,4 +28,4 @@ returns-2 c = rw (c .before .before .planned2 .given .1, c .number-of .ensures)
 pub planned-words-spec : {M : Type 1} → statement M
 planned-words-spec =
     tie.close
-    (tie.spec enum-known-planned cast-t8 enum-known-planned-2 number-of-requires returns returns-2)
+    (tie.spec enum-known-planned cast-t8 flag-word-requires enum-known-planned-2 number-of-requires returns returns-2)

@@ -7,6 +7,9 @@ use Rattle.bay_plan.proofs.shift_words.Tie as tie
 enum-known-planned : tie.Need-enum-known-planned
 enum-known-planned c = search needs
 
+flag-word-requires : tie.Need-flag-word-requires
+flag-word-requires c κs = search needs
+
 enum-known-planned-2 : tie.Need-enum-known-planned-2
 enum-known-planned-2 c = search needs
 
@@ -14,7 +17,7 @@ number-of-requires : tie.Need-number-of-requires
 number-of-requires c κs = search needs
 
 returns : tie.Need-returns
-returns c = rw (c .before .planned .given .1)
+returns c = rw (c .before .before .planned .given .1, c .flag-word .ensures)
 
 returns-2 : tie.Need-returns-2
 returns-2 c = rw (c .before .before .planned2 .given .1, c .number-of .ensures)
@@ -22,4 +25,4 @@ returns-2 c = rw (c .before .before .planned2 .given .1, c .number-of .ensures)
 pub shift-words-spec : {M : Type 1} → statement M
 shift-words-spec =
     tie.close
-    (tie.spec enum-known-planned enum-known-planned-2 number-of-requires returns returns-2)
+    (tie.spec enum-known-planned flag-word-requires enum-known-planned-2 number-of-requires returns returns-2)

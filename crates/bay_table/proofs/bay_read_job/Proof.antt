@@ -18,7 +18,7 @@ array-read-result : tie.Need-array-read-result
 array-read-result c = search needs
 
 returns : tie.Need-returns
-returns c = answered-by (c .job-words .ensures ∙ ap (words 5 jobWords) (c .before .read-job .ensures))
+returns c = answered-by (c .job-words .ensures ∙ ap (words 7 jobWords) (c .before .read-job .ensures))
 
 pub bay-read-job-spec : {M : Type 1} → statement M
 bay-read-job-spec =

@@ -18,7 +18,7 @@ array-read-result : tie.Need-array-read-result
 array-read-result c = search needs
 
 returns : tie.Need-returns
-returns c = answered-by (c .table-words .ensures ∙ ap (words 4 headerWords) (c .before .read-table .ensures))
+returns c = answered-by (c .table-words .ensures ∙ ap (words 5 headerWords) (c .before .read-table .ensures))
 
 pub bay-read-table-spec : {M : Type 1} → statement M
 bay-read-table-spec =

@@ -10,6 +10,12 @@ enum-known-read c = search needs
 cast-t5 : tie.Need-cast-t5
 cast-t5 c = search needs
 
+command-of-requires : tie.Need-command-of-requires
+command-of-requires c κs = search needs
+
+cast-t7 : tie.Need-cast-t7
+cast-t7 c = search needs
+
 enum-known-read-2 : tie.Need-enum-known-read-2
 enum-known-read-2 c = search needs
 
@@ -17,7 +23,7 @@ number-of-requires : tie.Need-number-of-requires
 number-of-requires c κs = search needs
 
 returns : tie.Need-returns
-returns c = rw (c .before .before .read .given .1)
+returns c = rw (c .before .before .before .read .given .1, c .command-of .ensures)
 
 returns-2 : tie.Need-returns-2
 returns-2 c = rw (c .before .before .read2 .given .1, c .number-of .ensures)
@@ -25,4 +31,12 @@ returns-2 c = rw (c .before .before .read2 .given .1, c .number-of .ensures)
 pub job-words-spec : {M : Type 1} → statement M
 job-words-spec =
     tie.close
-    (tie.spec enum-known-read cast-t5 enum-known-read-2 number-of-requires returns returns-2)
+    (tie.spec
+    enum-known-read
+    cast-t5
+    command-of-requires
+    cast-t7
+    enum-known-read-2
+    number-of-requires
+    returns
+    returns-2)

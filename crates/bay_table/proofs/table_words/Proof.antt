@@ -10,6 +10,9 @@ enum-known-read c = search needs
 cast-t5 : tie.Need-cast-t5
 cast-t5 c = search needs
 
+flag-word-requires : tie.Need-flag-word-requires
+flag-word-requires c κs = search needs
+
 enum-known-read-2 : tie.Need-enum-known-read-2
 enum-known-read-2 c = search needs
 
@@ -17,7 +20,7 @@ number-of-requires : tie.Need-number-of-requires
 number-of-requires c κs = search needs
 
 returns : tie.Need-returns
-returns c = rw (c .before .before .read .given .1)
+returns c = rw (c .before .before .before .read .given .1, c .flag-word .ensures)
 
 returns-2 : tie.Need-returns-2
 returns-2 c = rw (c .before .before .read2 .given .1, c .number-of .ensures)
@@ -25,4 +28,11 @@ returns-2 c = rw (c .before .before .read2 .given .1, c .number-of .ensures)
 pub table-words-spec : {M : Type 1} → statement M
 table-words-spec =
     tie.close
-    (tie.spec enum-known-read cast-t5 enum-known-read-2 number-of-requires returns returns-2)
+    (tie.spec
+    enum-known-read
+    cast-t5
+    flag-word-requires
+    enum-known-read-2
+    number-of-requires
+    returns
+    returns-2)
