@@ -1,26 +1,29 @@
--- The workshop's checklist, on the trailer's table: what each of the 243 readings of five facts gives on P1's tree.
--- The theorems behind it hold of every table (`planner`, Promise.antt); here they are seen on this one.
+-- The workshop's checklist, on the trailer's table and on that with one fact less: what each of the 243 readings of five facts gives on P1's tree, and
+-- each of the 81 of four on the other's. The theorems behind it hold of every table (`planner`, Promise.antt); here they are seen on these.
 -- Definitions only; Computed.antt computes them.
-use Prim.Native.Nat.{ℕ, zero, suc, _+_, _*_}
+use Prim.Native.Nat.{ℕ, zero, suc, _+_, _*_, _^_}
 use mathlib.Core.Bool.{Bool, true, false, not, _&&_, _||_}
 use mathlib.Core.List.{List, [], _∷_, _++_, map}
 use lib.Dec.{eqb}
+use lib.ListN.{length, take}
 use Rattle.masks.specs.Sets.{subset, intersects, union}
 use Rattle.refusal.specs.Checked.{Checked, accepted, refused}
 use Rattle.reading.specs.declared.Reading.{Reading}
 use Rattle.reading.specs.Reading.{state}
-use Rattle.conditions.specs.Condition.{Condition}
-use Rattle.tree.specs.declared.Leaf.the-variants.{Condition as Asks}
+use Rattle.conditions.specs.declared.Condition.{Condition}
+use Rattle.tree.specs.declared.Leaf.the-variants.{Action}
 use Rattle.tree.specs.declared.Status.{Status}
 use Rattle.tree.specs.declared.Status.the-variants.{Success, Failure, Running, Unsettled}
 use Rattle.tree.specs.Tree as Shape
 use Rattle.tree.specs.ReadTree.{readTree}
 use Rattle.tree.specs.Tick.{Verdict, tickTree}
 use Rattle.tree.specs.TickBytes.{isSettled}
+use Rattle.table.specs.Table.{Table}
 use Rattle.planning.specs.Expansion.{Entry}
 use Rattle.builder.specs.Plan.{jobOf}
 use Rattle.marked_cases.specs.Trailer.{trailer}
-use Rattle.marked_cases.specs.Cases.{reading, p1Plan}
+use Rattle.marked_cases.specs.OneFactLess.{oneFactLess}
+use Rattle.marked_cases.specs.Cases.{reading, p1Plan, lessWhole, lessTree}
 
 -- ---- the readings, and the ways of filling in their unread facts
 
@@ -58,47 +61,67 @@ codeOf (Unsettled mask) = 4 * mask + 3
 abbrev same : Verdict → Verdict → Bool
 same v w = eqb (codeOf (v .answer)) (codeOf (w .answer)) && eqb (v .leaf) (w .leaf)
 
--- "Wheel sensor read? No pulse count is not zero pulses." A settled answer stands in every filling-in.
-abbrev stands : Shape.Tree → Reading → Bool
-stands tree r = not (isSettled (tickTree r tree .answer)) || every (λ s. not (completes r s) || same (tickTree (state s) tree) (tickTree r tree)) (states 32)
-
--- "Trailer still coupled?" A job is named only where all its needs are read and held in the reading just given.
-abbrev needsHeld : Status → Reading → Bool
-needsHeld (Running job) r = subset (jobOf trailer job .needs) (r .held) && not (intersects (jobOf trailer job .needs) (r .unread))
-needsHeld Success r = true
-needsHeld Failure r = true
-needsHeld (Unsettled mask) r = true
-
--- "Both circumferences in before the seal?" Job 4 is named only where facts 2 and 3 are read and held.
-abbrev sealed : Status → Reading → Bool
-sealed (Running job) r = not (eqb job 4) || (subset 0x0c (r .held) && not (intersects 0x0c (r .unread)))
-sealed Success r = true
-sealed Failure r = true
-sealed (Unsettled mask) r = true
-
--- "Vehicle sent away as impossible?" Where all facts are read, the tree fails exactly where no listed condition is met.
-abbrev anyMet : ℕ → List (Entry Condition) → Bool
-anyMet s [] = false
-anyMet s (x ∷ l) = subset (x .condition) s || anyMet s l
-
 abbrev isFailure : Status → Bool
 isFailure Success = false
 isFailure Failure = true
 isFailure (Running job) = false
 isFailure (Unsettled mask) = false
 
-abbrev failsRightly : List (Entry Condition) → Status → Reading → Bool
-failsRightly list a r = not (eqb (r .unread) 0) || (isFailure a && not (anyMet (r .held) list)) || (not (isFailure a) && anyMet (r .held) list)
+-- each of these facts is read and held, and each of those is read and absent
+abbrev readHeld : ℕ → Reading → Bool
+readHeld facts r = subset facts (r .held) && not (intersects facts (r .unread))
 
-abbrev keeps : Shape.Tree → List (Entry Condition) → Reading → Bool
-keeps tree list r =
-    stands tree r && (needsHeld (tickTree r tree .answer) r && (sealed (tickTree r tree .answer) r && failsRightly list (tickTree r tree .answer) r))
+abbrev readAbsent : ℕ → Reading → Bool
+readAbsent facts r = not (intersects facts (union (r .held) (r .unread)))
 
--- P1's tree, read from its bytes
-abbrev treeIn : Checked Shape.Tree → Shape.Tree
-treeIn (accepted t) = t
-treeIn (refused n p) = Shape.leaf (Asks 0) 0
+-- a state meets a listed condition
+abbrev anyMet : ℕ → List (Entry Condition) → Bool
+anyMet s [] = false
+anyMet s (x ∷ l) = (subset (x .condition .present) s && not (intersects (x .condition .absent) s)) || anyMet s l
 
--- all 243 keep it
+-- on a table, whose job 4 is the seal, which needs the circumferences `known`
+module _ (t : Table) (known : ℕ) where
+  -- "Wheel sensor read? No pulse count is not zero pulses." A settled answer stands in every filling-in.
+  abbrev stands : Shape.Tree → Reading → Bool
+  stands tree r =
+      elim (isSettled (tickTree r tree .answer)) [
+        | true ↦ every (λ s. elim (completes r s) [ true ↦ same (tickTree (state s) tree) (tickTree r tree) | false ↦ true ]) (states (2 ^ t .facts))
+        | false ↦ true
+      ]
+
+  -- "Trailer still coupled?" A job is named only where all its needs are read and held in the reading just given, and its absent facts read and absent.
+  abbrev needsHeld : Status → Reading → Bool
+  needsHeld (Running job) r = readHeld (jobOf t job .needs) r && readAbsent (jobOf t job .absent) r
+  needsHeld Success r = true
+  needsHeld Failure r = true
+  needsHeld (Unsettled mask) r = true
+
+  -- "Both circumferences in before the seal?" Job 4 is named only where both are read and held.
+  abbrev sealed : Status → Reading → Bool
+  sealed (Running job) r = not (eqb job 4) || readHeld known r
+  sealed Success r = true
+  sealed Failure r = true
+  sealed (Unsettled mask) r = true
+
+  -- "Vehicle sent away as impossible?" Where all facts are read, the tree fails exactly where no listed condition is met.
+  abbrev failsRightly : List (Entry Condition) → Status → Reading → Bool
+  failsRightly list a r = not (eqb (r .unread) 0) || (isFailure a && not (anyMet (r .held) list)) || (not (isFailure a) && anyMet (r .held) list)
+
+  abbrev keeps : Shape.Tree → List (Entry Condition) → Reading → Bool
+  keeps tree list r =
+      stands tree r && (needsHeld (tickTree r tree .answer) r && (sealed (tickTree r tree .answer) r && failsRightly list (tickTree r tree .answer) r))
+
+  -- a tree, read from its bytes
+  abbrev treeIn : Checked Shape.Tree → Shape.Tree
+  treeIn (accepted tree) = tree
+  treeIn (refused n p) = Shape.leaf (Action 0) 0
+
+  -- all readings keep it
+  abbrev kept : List ℕ → List (Entry Condition) → Bool
+  kept tree list = every (keeps (treeIn (readTree tree (t .facts) (length (t .jobs)))) list) (readings (t .facts))
+
 abbrev pub checklist : Bool
-checklist = every (keeps (treeIn (readTree (p1Plan .tree) 5 5)) (p1Plan .list)) (readings 5)
+checklist = kept trailer 0x0c (p1Plan .tree) (p1Plan .list)
+
+abbrev pub lessChecklist : Bool
+lessChecklist = kept oneFactLess 0x06 lessTree (take 7 lessWhole)

@@ -1,4 +1,4 @@
--- What the program prints for document 01's files, and for some that it refuses.
+-- What the program prints for document 01's files, for a table with a 0x21, and for some files that it refuses.
 -- Definitions only; Computed.antt computes them.
 use mathlib.Core.List.{List, [], _∷_, _++_}
 use Prim.Native.Nat.{ℕ}
@@ -8,6 +8,7 @@ use Rattle.numbers.specs.Numbers.{toBytes}
 use Rattle.text_fields.specs.Fields.{ascii}
 use Rattle.program_text.specs.Program.{programText}
 use Rattle.marked_cases.specs.Trailer.{trailerBytes}
+use Rattle.marked_cases.specs.OneFactLess.{oneFactLessBytes}
 
 abbrev lines : List String → List ℕ
 lines [] = []
@@ -38,6 +39,18 @@ prints =
     ∷ "5 0000000000000003 3 2 3"
     ∷ "6 0000000000000005 0 3 3"
     ∷ "7 0000000000000002 3 4 4"
+    ∷ "way 4 26"
+    ∷ [])
+    -- document 02, W10: "`bayplan` prints each after the first"
+    ∷ (oneFactLessBytes with startBytes 0x01 0 prints
+    "plan 7 153"
+    ∷ "0 0000000000000008 0000000000000000 - 0 0"
+    ∷ "1 0000000000000006 0000000000000000 4 0 1"
+    ∷ "2 0000000000000004 0000000000000001 2 1 2"
+    ∷ "3 0000000000000003 0000000000000000 3 1 2"
+    ∷ "4 0000000000000005 0000000000000000 1 2 3"
+    ∷ "5 0000000000000002 0000000000000001 0 3 3"
+    ∷ "6 0000000000000001 0000000000000000 3 4 4"
     ∷ "way 4 26"
     ∷ [])
     -- P3 with lists of 4,096
