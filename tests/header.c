@@ -24,16 +24,27 @@ static void check(int holds, const char *what, int line) {
 
 static uint8_t table_bytes[BAY_MAX_TABLE_BYTES + 1];
 static uint64_t conditions[BAY_MAX_ENTRIES];
+static uint64_t absences[BAY_MAX_PAIR_ENTRIES];
 static uint8_t jobs[BAY_MAX_ENTRIES];
 static uint16_t parents[BAY_MAX_ENTRIES];
 static uint16_t depths[BAY_MAX_ENTRIES];
 static uint8_t tree_bytes[BAY_MAX_TREE_BYTES + 1];
 
 /* Document 01's trailer. */
+static const uint8_t commands[5] = {BAY_JOB, BAY_JOB, BAY_JOB, BAY_JOB, BAY_JOB};
+static const uint64_t none[5] = {0, 0, 0, 0, 0};
 static const uint64_t needs[5] = {0x01, 0x02, 0x01, 0x02, 0x0c};
 static const uint64_t adds[5] = {0x02, 0x01, 0x04, 0x08, 0x10};
 static const uint64_t deletes[5] = {0x01, 0x02, 0x00, 0x00, 0x00};
 static const uint16_t seconds[5] = {300, 240, 600, 600, 150};
+
+/* The same with one fact less: "trailer off" is the absence of fact 0, "trailer on". */
+static const uint8_t pair_commands[5] = {BAY_PAIRED_JOB, BAY_JOB, BAY_PAIRED_JOB, BAY_JOB, BAY_JOB};
+static const uint64_t pair_needs[5] = {0x00, 0x01, 0x00, 0x01, 0x06};
+static const uint64_t pair_absent[5] = {0x01, 0x00, 0x01, 0x00, 0x00};
+static const uint64_t pair_adds[5] = {0x01, 0x00, 0x02, 0x04, 0x08};
+static const uint64_t pair_deletes[5] = {0x00, 0x01, 0x00, 0x00, 0x00};
+static uint8_t pair_table_bytes[163];
 
 static struct bay_table first(size_t length) {
     struct bay_table table = {table_bytes, length};
@@ -46,12 +57,22 @@ static struct bay_reading reading(uint64_t held, uint64_t unread) {
 }
 
 static struct bay_plan_room room(size_t entries, size_t bytes) {
-    struct bay_plan_room result = {conditions, jobs, parents, depths, entries, tree_bytes, bytes};
+    struct bay_plan_room result = {conditions, jobs, parents, depths, entries, conditions, 0, tree_bytes, bytes};
+    return result;
+}
+
+static struct bay_plan_room pair_room(size_t entries, size_t absences_entries, size_t bytes) {
+    struct bay_plan_room result = {conditions, jobs, parents, depths, entries, absences, absences_entries, tree_bytes, bytes};
+    return result;
+}
+
+static struct bay_condition condition(uint64_t present, uint64_t absent) {
+    struct bay_condition result = {present, absent};
     return result;
 }
 
 static void tables(void) {
-    struct bay_columns columns = {needs, adds, deletes, seconds, 5};
+    struct bay_columns columns = {commands, needs, none, adds, deletes, seconds, 5};
     struct bay_written written = bay_table_write(300, columns, 0x10, table_bytes, sizeof table_bytes);
     REFUSED(written, BAY_FACT_COUNT_OUT_OF_RANGE, 0);
     CHECK(written.bytes == 0);
@@ -65,27 +86,114 @@ static void tables(void) {
     CHECK(written.bytes == 147);
     CHECK(table_bytes[0] == 0);
     uint64_t answer[2];
-    CHECK(bay_write_table(5, needs, 5, adds, 4, deletes, 5, seconds, 5, 0x10, table_bytes, sizeof table_bytes, answer) == BAY_UNEVEN);
+    CHECK(bay_write_table(5, commands, 5, needs, 5, none, 5, adds, 4, deletes, 5, seconds, 5, 0x10, table_bytes, sizeof table_bytes,
+                          answer) == BAY_UNEVEN);
+    CHECK(bay_write_table(5, commands, 4, needs, 5, none, 5, adds, 5, deletes, 5, seconds, 5, 0x10, table_bytes, sizeof table_bytes,
+                          answer) == BAY_UNEVEN);
+    CHECK(bay_write_table(5, commands, 5, needs, 5, none, 4, adds, 5, deletes, 5, seconds, 5, 0x10, table_bytes, sizeof table_bytes,
+                          answer) == BAY_UNEVEN);
+    CHECK(answer[1] == 0 && table_bytes[0] == 0);
     written = bay_table_write(5, columns, 0x10, table_bytes, sizeof table_bytes);
     DONE(written);
     CHECK(written.bytes == 147);
 
     struct bay_header header = bay_table_read(first(147));
     DONE(header);
-    CHECK(header.facts == 5 && header.jobs == 5 && header.goal == 0x10);
+    CHECK(header.facts == 5 && header.jobs == 5 && header.goal == 0x10 && !header.paired);
     header = bay_table_read(first(146));
     REFUSED(header, BAY_TABLE_CUT, 146);
-    CHECK(header.facts == 0 && header.jobs == 0 && header.goal == 0);
+    CHECK(header.facts == 0 && header.jobs == 0 && header.goal == 0 && !header.paired);
     REFUSED(bay_table_read(first(145)), BAY_TABLE_CUT, 137);
     REFUSED(bay_table_read(first(148)), BAY_BYTES_AFTER_TABLE, 147);
 
     struct bay_job job = bay_table_read_job(first(147), 4);
     DONE(job);
     CHECK(job.needs == 0x0c && job.adds == 0x10 && job.deletes == 0 && job.seconds == 150);
+    CHECK(job.absent == 0 && job.command == BAY_JOB);
     job = bay_table_read_job(first(147), 5);
     REFUSED(job, BAY_NO_SUCH_JOB, 0);
-    CHECK(job.needs == 0 && job.adds == 0 && job.deletes == 0 && job.seconds == 0);
+    CHECK(job.needs == 0 && job.adds == 0 && job.deletes == 0 && job.seconds == 0 && job.absent == 0 && job.command == 0);
     REFUSED(bay_table_read_job(first(147), 256), BAY_NO_SUCH_JOB, 0);
+}
+
+static void pair_tables(void) {
+    struct bay_columns columns = {pair_commands, pair_needs, pair_absent, pair_adds, pair_deletes, seconds, 5};
+    struct bay_written written = bay_table_write(4, columns, 0x08, pair_table_bytes, 162);
+    REFUSED(written, BAY_TOO_SHORT, 0);
+    CHECK(written.bytes == 163 && pair_table_bytes[0] == 0);
+    /* Absent facts where the command has no place for them, and a command that is none of a job. */
+    struct bay_columns unwritable = columns;
+    unwritable.commands = commands;
+    written = bay_table_write(300, unwritable, 0x08, pair_table_bytes, sizeof pair_table_bytes);
+    REFUSED(written, BAY_UNWRITABLE, 0);
+    CHECK(written.bytes == 0);
+    static const uint8_t foreign[5] = {BAY_PAIRED_JOB, BAY_JOB, BAY_PAIRED_JOB, 0x30, 0};
+    unwritable.commands = foreign;
+    REFUSED(bay_table_write(4, unwritable, 0x08, pair_table_bytes, sizeof pair_table_bytes), BAY_UNWRITABLE, 3);
+    /* Job 2 needs the trailer on and off. */
+    static const uint64_t both[5] = {0x00, 0x01, 0x01, 0x01, 0x06};
+    struct bay_columns contradictory = columns;
+    contradictory.needs = both;
+    REFUSED(bay_table_write(4, contradictory, 0x08, pair_table_bytes, sizeof pair_table_bytes), BAY_NEEDS_CONTRADICT, 2 + 35 + 27);
+    written = bay_table_write(4, columns, 0x08, pair_table_bytes, sizeof pair_table_bytes);
+    DONE(written);
+    CHECK(written.bytes == 163);
+
+    struct bay_table table = {pair_table_bytes, 163};
+    struct bay_header header = bay_table_read(table);
+    DONE(header);
+    CHECK(header.facts == 4 && header.jobs == 5 && header.goal == 0x08 && header.paired);
+    struct bay_job job = bay_table_read_job(table, 0);
+    DONE(job);
+    CHECK(job.needs == 0 && job.absent == 0x01 && job.adds == 0x01 && job.deletes == 0 && job.seconds == 300);
+    CHECK(job.command == BAY_PAIRED_JOB);
+    CHECK(bay_table_read_job(table, 1).command == BAY_JOB);
+    table.length = 36;
+    REFUSED(bay_table_read(table), BAY_TABLE_CUT, 2);
+}
+
+static void pair_plans(void) {
+    struct bay_table table = {pair_table_bytes, 163};
+    /* The fifth list table counts: 7 entries are needed of each. */
+    REFUSED(bay_tree_plan(table, reading(0x01, 0), pair_room(7, 6, 200)), BAY_LIST_FULL, 6);
+    REFUSED(bay_tree_plan(table, reading(0x01, 0), pair_room(6, 7, 200)), BAY_LIST_FULL, 6);
+    REFUSED(bay_tree_plan(table, reading(0x01, 0), room(7, 200)), BAY_LIST_FULL, 0);
+    struct bay_planned plan = bay_tree_plan(table, reading(0x01, 0), pair_room(7, 7, 152));
+    REFUSED(plan, BAY_TREE_TOO_SHORT, 7);
+    CHECK(!plan.paired);
+    struct bay_shift_planned shift = bay_tree_plan_shift(table, pair_room(7, 7, 200));
+    REFUSED(shift, BAY_LIST_FULL, 7);
+    CHECK(!shift.paired);
+    shift = bay_tree_plan_shift(table, pair_room(8, 8, 175));
+    DONE(shift);
+    CHECK(shift.entries == 8 && shift.tree_bytes == 175 && shift.paired);
+    CHECK(conditions[7] == 0 && absences[7] == 0x01);
+
+    plan = bay_tree_plan(table, reading(0x01, 0), pair_room(7, 7, 153));
+    DONE(plan);
+    CHECK(plan.entries == 7 && plan.tree_bytes == 153 && plan.way_jobs == 4 && plan.way_minutes == 26 && plan.paired);
+    CHECK(absences[0] == 0 && conditions[2] == 0x04 && absences[2] == 0x01 && conditions[6] == 0x01 && absences[6] == 0);
+
+    struct bay_tree tree = {tree_bytes, 153};
+    struct bay_ticked ticked = bay_tree_tick(table, tree, reading(0x04, 0));
+    DONE(ticked);
+    CHECK(ticked.status == BAY_RUNNING && ticked.job == 2);
+    ticked = bay_tree_tick(table, tree, reading(0x04, 0x01));
+    DONE(ticked);
+    CHECK(ticked.status == BAY_UNSETTLED && ticked.to_read == 0x01);
+    tree_bytes[3 + 16] = 0x80;
+    REFUSED(bay_tree_tick(table, tree, reading(0x04, 0)), BAY_TREE_OPERAND_OUT_OF_RANGE, 3);
+    tree_bytes[3 + 16] = 0;
+
+    /* Coupling needs the trailer absent, and read so. */
+    struct bay_card card;
+    DONE(bay_card_open(&card, table, reading(0x00, 0x01)));
+    REFUSED(bay_card_report(&card, table, 0, 300), BAY_NEED_NOT_HELD, 0);
+    DONE(bay_card_read_outside(&card, table, reading(0x01, 0)));
+    REFUSED(bay_card_report(&card, table, 0, 300), BAY_NEED_NOT_HELD, 0);
+    DONE(bay_card_read_outside(&card, table, reading(0, 0)));
+    DONE(bay_card_report(&card, table, 0, 300));
+    CHECK(card.held == 0x01 && card.unread == 0 && card.reports == 1 && card.planned == 300);
 }
 
 static void plans(void) {
@@ -96,7 +204,7 @@ static void plans(void) {
     REFUSED(bay_tree_plan(table, reading(0x08, 0), room(9, 200)), BAY_NO_WAY, 9);
     struct bay_planned plan = bay_tree_plan(table, reading(0x02, 0), room(9, 110));
     REFUSED(plan, BAY_TREE_TOO_SHORT, 8);
-    CHECK(plan.entries == 0 && plan.tree_bytes == 0 && plan.way_jobs == 0 && plan.way_minutes == 0);
+    CHECK(plan.entries == 0 && plan.tree_bytes == 0 && plan.way_jobs == 0 && plan.way_minutes == 0 && !plan.paired);
     CHECK(tree_bytes[0] == 0);
 
     struct bay_shift_planned shift = bay_tree_plan_shift(table, room(8, 200));
@@ -104,12 +212,18 @@ static void plans(void) {
     CHECK(shift.entries == 0 && shift.tree_bytes == 0);
     shift = bay_tree_plan_shift(table, room(9, 200));
     DONE(shift);
-    CHECK(shift.entries == 9 && shift.tree_bytes == 125);
+    CHECK(shift.entries == 9 && shift.tree_bytes == 125 && !shift.paired);
 
     plan = bay_tree_plan(table, reading(0x02, 0), room(9, 200));
     DONE(plan);
-    CHECK(plan.entries == 8 && plan.tree_bytes == 111 && plan.way_jobs == 4 && plan.way_minutes == 26);
+    CHECK(plan.entries == 8 && plan.tree_bytes == 111 && plan.way_jobs == 4 && plan.way_minutes == 26 && !plan.paired);
     CHECK(jobs[0] == BAY_NO_JOB && jobs[7] == 3 && conditions[7] == 0x02 && parents[7] == 4 && depths[7] == 4);
+    /* The fifth list table does not count here, however short, and is not touched, however long. */
+    absences[0] = 0xa5;
+    DONE(bay_tree_plan(table, reading(0x02, 0), pair_room(9, 1, 200)));
+    DONE(bay_tree_plan_shift(table, pair_room(9, BAY_MAX_PAIR_ENTRIES, 200)));
+    CHECK(absences[0] == 0xa5 && absences[1] == 0);
+    DONE(bay_tree_plan(table, reading(0x02, 0), room(9, 200)));
 }
 
 static void ticks(void) {
@@ -155,18 +269,33 @@ static void ticks(void) {
     REFUSED(bay_tree_tick(table, deeper, reading(0x02, 0)), BAY_TREE_TOO_DEEP, 48);
 }
 
-static void searches(void) {
+static struct bay_found search(size_t entries, size_t second_masks, struct bay_condition wanted) {
     static const uint64_t listed[] = {0x03, 0x01, 0x04, 0x01, 0x0c};
-    struct bay_found found = bay_list_newest_weaker(listed, 5, 0x03);
+    static const uint64_t second[] = {0x00, 0x10, 0x00, 0x10, 0x00};
+    struct bay_list list = {listed, entries, second, second_masks};
+    return bay_list_newest_weaker(list, wanted);
+}
+
+static void searches(void) {
+    struct bay_found found = search(5, 0, condition(0x03, 0));
     CHECK(found.any && found.entry == 3);
-    found = bay_list_newest_weaker(listed, 3, 0x03);
+    found = search(3, 0, condition(0x03, 0));
     CHECK(found.any && found.entry == 1);
-    found = bay_list_newest_weaker(listed, 1, 0x03);
+    found = search(1, 0, condition(0x03, 0));
     CHECK(found.any && found.entry == 0);
-    found = bay_list_newest_weaker(listed, 5, 0x08);
+    found = search(5, 0, condition(0x08, 0));
     CHECK(!found.any && found.entry == 0);
-    found = bay_list_newest_weaker(listed, 0, 0x03);
+    found = search(0, 0, condition(0x03, 0));
     CHECK(!found.any && found.entry == 0);
+    /* The entries that want fact 4 absent, too; with three second masks entry 3 wants nothing absent. */
+    found = search(5, 5, condition(0x03, 0));
+    CHECK(found.any && found.entry == 0);
+    found = search(5, 5, condition(0x01, 0));
+    CHECK(!found.any && found.entry == 0);
+    found = search(5, 5, condition(0x03, 0x30));
+    CHECK(found.any && found.entry == 3);
+    found = search(5, 3, condition(0x03, 0));
+    CHECK(found.any && found.entry == 3);
 }
 
 static void cards(void) {
@@ -184,9 +313,9 @@ static void cards(void) {
 
     struct bay_card before = card;
     /* Job 0 if they were cut to a byte. */
-    static const size_t none[] = {5, 255, 256, 512, 300, (size_t)1 << 32, (size_t)1 << 63, SIZE_MAX};
-    for (size_t i = 0; i < sizeof none / sizeof none[0]; i++) {
-        REFUSED(bay_card_report(&card, table, none[i], 60), BAY_NO_SUCH_JOB, 0);
+    static const size_t no_job[] = {5, 255, 256, 512, 300, (size_t)1 << 32, (size_t)1 << 63, SIZE_MAX};
+    for (size_t i = 0; i < sizeof no_job / sizeof no_job[0]; i++) {
+        REFUSED(bay_card_report(&card, table, no_job[i], 60), BAY_NO_SUCH_JOB, 0);
     }
     REFUSED(bay_card_report(&card, table, 0, 60), BAY_NEED_NOT_HELD, 0);
     REFUSED(bay_card_report(&card, first(100), 3, 60), BAY_TABLE_CUT, 83);
@@ -204,12 +333,15 @@ static void cards(void) {
 }
 
 int main(void) {
-    CHECK(BAY_MAX_TABLE_BYTES == 2 + 27 * BAY_MAX_JOBS + 10);
+    CHECK(BAY_MAX_TABLE_BYTES == 2 + 35 * BAY_MAX_JOBS + 10);
+    CHECK(22 * BAY_MAX_PAIR_ENTRIES - 1 <= BAY_MAX_TREE_BYTES && 22 * (BAY_MAX_PAIR_ENTRIES + 1) - 1 > BAY_MAX_TREE_BYTES);
     tables();
+    pair_tables();
     plans();
     searches();
     ticks();
     cards();
+    pair_plans();
     printf("%d passed, %d failed\n", passed, failed);
     return failed != 0;
 }

@@ -111,7 +111,7 @@ fi
 # ---- the examples
 
 "$programs/make_examples" "$work/examples"
-for folder in trailer truck_two_axles no_way damaged_table; do
+for folder in trailer trailer_one_fact_less truck_two_axles no_way damaged_table; do
     for file in bay.tab start.bay expected.txt; do
         same "examples/$folder/$file as made" "examples/$folder/$file" "$work/examples/$folder/$file"
     done
@@ -173,12 +173,14 @@ for program in plan shift stack; do
 done
 "$work/plan" >"$work/printed" 2>&1
 same "examples/c/plan" examples/c/expected_plan.txt "$work/printed"
-for folder in truck_two_axles no_way damaged_table; do
+for folder in trailer_one_fact_less truck_two_axles no_way damaged_table; do
     "$work/plan" examples/$folder/bay.tab examples/$folder/start.bay >"$work/printed" 2>&1
     same "examples/c/plan on $folder" examples/c/expected_plan_$folder.txt "$work/printed"
 done
 "$work/shift" examples/trailer/bay.tab 02 01 08 10 >"$work/printed" 2>&1
 same "examples/c/shift on trailer" examples/c/expected_shift.txt "$work/printed"
+"$work/shift" examples/trailer_one_fact_less/bay.tab 01 00 06 08 >"$work/printed" 2>&1
+same "examples/c/shift on trailer_one_fact_less" examples/c/expected_shift_trailer_one_fact_less.txt "$work/printed"
 (ulimit -s 256 && "$work/stack") >"$work/printed" 2>&1
 same "examples/c/stack on a stack of 256 KiB" examples/c/expected_stack.txt "$work/printed"
 

@@ -5,30 +5,35 @@
 //! the comments are from document 01, or from document 02 where they name it.
 
 use std::cmp::Ordering;
-use std::fmt::Write;
 
 // ---- commands
 
 pub const FACTS: u8 = 0x10;
 pub const JOB: u8 = 0x20;
+/// Document 02, W10: "A second JOB command".
+pub const PAIRED_JOB: u8 = 0x21;
 pub const GOAL: u8 = 0x30;
 pub const END_OF_TABLE: u8 = 0x3f;
 pub const FALLBACK: u8 = 0x41;
 pub const SEQUENCE: u8 = 0x42;
 pub const CONDITION: u8 = 0x43;
 pub const JOB_LEAF: u8 = 0x44;
+/// A condition "with both masks" (document 02, W10).
+pub const PAIR: u8 = 0x45;
 pub const END_OF_TREE: u8 = 0x4f;
 
 /// "One table gives the operand width of every command."
-pub const WIDTHS: [(u8, usize); 9] = [
+pub const WIDTHS: [(u8, usize); 11] = [
     (FACTS, 1),
     (JOB, 26),
+    (PAIRED_JOB, 34),
     (GOAL, 8),
     (END_OF_TABLE, 0),
     (FALLBACK, 2),
     (SEQUENCE, 2),
     (CONDITION, 8),
     (JOB_LEAF, 1),
+    (PAIR, 16),
     (END_OF_TREE, 0),
 ];
 
@@ -36,6 +41,8 @@ pub const MOST_JOBS: usize = 128;
 /// Document 02, W3.
 pub const MOST_SECONDS: u16 = 5_400;
 pub const MOST_ENTRIES: usize = 4096;
+/// Of a table that has a 0x21 (document 02, W10).
+pub const MOST_PAIR_ENTRIES: usize = 2_978;
 pub const MOST_CHILDREN: usize = 4096;
 pub const MOST_DEPTH: usize = 16;
 pub const MOST_TREE_BYTES: usize = 65_535;
@@ -86,18 +93,60 @@ pub fn is_part(part: u64, whole: u64) -> bool {
 
 // ---- the table
 
+/// A job, by the command that it stands in the table by: a 0x21 that needs nothing absent is no 0x20.
 #[derive(Clone, Copy, Debug, PartialEq, Eq)]
 pub struct Job {
+    pub command: u8,
     pub needs: u64,
+    pub absent: u64,
     pub adds: u64,
     pub deletes: u64,
     pub seconds: u16,
 }
 
 impl Job {
-    /// "It is applicable when all its needs are held."
-    pub fn is_applicable(&self, held: u64) -> bool {
-        is_part(self.needs, held)
+    /// Document 01's job.
+    pub fn plain(needs: u64, adds: u64, deletes: u64, seconds: u16) -> Job {
+        Job { command: JOB, needs, absent: 0, adds, deletes, seconds }
+    }
+
+    /// One of "Jobs that need a fact absent" (document 02, W10).
+    pub fn paired(needs: u64, absent: u64, adds: u64, deletes: u64, seconds: u16) -> Job {
+        Job { command: PAIRED_JOB, needs, absent, adds, deletes, seconds }
+    }
+
+    fn from_operands(command: u8, operands: &[u8]) -> Job {
+        let (absent, effects) = if command == PAIRED_JOB { (u64_at(operands, 8), 16) } else { (0, 8) };
+        Job {
+            command,
+            needs: u64_at(operands, 0),
+            absent,
+            adds: u64_at(operands, effects),
+            deletes: u64_at(operands, effects + 8),
+            seconds: u16_at(operands, effects + 16),
+        }
+    }
+
+    fn bytes(&self) -> Vec<u8> {
+        let mut bytes = vec![self.command];
+        bytes.extend(self.needs.to_le_bytes());
+        if self.command == PAIRED_JOB {
+            bytes.extend(self.absent.to_le_bytes());
+        }
+        bytes.extend(self.adds.to_le_bytes());
+        bytes.extend(self.deletes.to_le_bytes());
+        bytes.extend(self.seconds.to_le_bytes());
+        bytes
+    }
+
+    /// Has its command a place for all that it needs?
+    fn is_writable(&self) -> bool {
+        self.command == PAIRED_JOB || self.command == JOB && self.absent == 0
+    }
+
+    /// "It is applicable when all its needs are held", and "One whose absent fact is held or unread is not applicable" (document 02, W10).
+    pub fn is_applicable(&self, held: u64, unread: u64) -> bool {
+        is_part(self.needs, held) && self.absent & (held | unread) == 0
     }
 
     /// "held becomes (held with adds) without deletes"
@@ -117,6 +166,24 @@ impl Table {
     pub fn has_only_known_facts(&self, mask: u64) -> bool {
         is_part(mask, all_facts(self.facts))
     }
+
+    /// "once the table has a 0x21"
+    pub fn is_paired(&self) -> bool {
+        self.jobs.iter().any(|job| job.command == PAIRED_JOB)
+    }
+
+    /// What a list holds at most, however much is lent.
+    pub fn most_entries(&self) -> usize {
+        if self.is_paired() {
+            MOST_PAIR_ENTRIES
+        } else {
+            MOST_ENTRIES
+        }
+    }
+
+    pub fn bytes(&self) -> Vec<u8> {
+        table_bytes(self.facts as u8, &self.jobs, self.goal)
+    }
 }
 
 /// The command due at `at`: first its byte (1, 2), then its operands' presence (1).
@@ -133,7 +200,7 @@ fn table_command<'a>(bytes: &'a [u8], at: usize, allowed: &[u8]) -> Result<(u8, 
     }
 }
 
-/// Reads a table, stops 1 to 7 and 19.
+/// Reads a table, stops 1 to 7, 19 and 22.
 pub fn read_table(bytes: &[u8]) -> Result<Table, Refusal> {
     let mut at = 0;
     let (_, operands) = table_command(bytes, at, &[FACTS])?;
@@ -146,7 +213,7 @@ pub fn read_table(bytes: &[u8]) -> Result<Table, Refusal> {
 
     let mut jobs = Vec::new();
     let goal = loop {
-        let (command, operands) = table_command(bytes, at, &[JOB, GOAL])?;
+        let (command, operands) = table_command(bytes, at, &[JOB, PAIRED_JOB, GOAL])?;
         if command == GOAL {
             let goal = u64_at(operands, 0);
             if beyond(goal) {
@@ -157,13 +224,8 @@ pub fn read_table(bytes: &[u8]) -> Result<Table, Refusal> {
         if jobs.len() == MOST_JOBS {
             return refuse(4, at);
         }
-        let job = Job {
-            needs: u64_at(operands, 0),
-            adds: u64_at(operands, 8),
-            deletes: u64_at(operands, 16),
-            seconds: u16_at(operands, 24),
-        };
-        if beyond(job.needs) || beyond(job.adds) || beyond(job.deletes) {
+        let job = Job::from_operands(command, operands);
+        if [job.needs, job.absent, job.adds, job.deletes].into_iter().any(beyond) {
             return refuse(5, at);
         }
         if job.adds & job.deletes != 0 || job.adds & job.needs != 0 {
@@ -172,8 +234,11 @@ pub fn read_table(bytes: &[u8]) -> Result<Table, Refusal> {
         if job.seconds > MOST_SECONDS {
             return refuse(19, at);
         }
+        if job.needs & job.absent != 0 {
+            return refuse(22, at);
+        }
         jobs.push(job);
-        at += 1 + width_of(JOB);
+        at += 1 + width_of(command);
     };
     at += 1 + width_of(GOAL);
 
@@ -198,11 +263,7 @@ pub fn read_job(bytes: &[u8], number: usize) -> Result<Job, Refusal> {
 pub fn table_bytes(facts: u8, jobs: &[Job], goal: u64) -> Vec<u8> {
     let mut bytes = vec![FACTS, facts];
     for job in jobs {
-        bytes.push(JOB);
-        bytes.extend(job.needs.to_le_bytes());
-        bytes.extend(job.adds.to_le_bytes());
-        bytes.extend(job.deletes.to_le_bytes());
-        bytes.extend(job.seconds.to_le_bytes());
+        bytes.extend(job.bytes());
     }
     bytes.push(GOAL);
     bytes.extend(goal.to_le_bytes());
@@ -210,10 +271,12 @@ pub fn table_bytes(facts: u8, jobs: &[Job], goal: u64) -> Vec<u8> {
     bytes
 }
 
-/// The four columns that a table is written from; job i stands at i of each.
+/// The columns that a table is written from; job i stands at i of each.
 #[derive(Clone, Debug, Default)]
 pub struct Columns {
+    pub commands: Vec<u8>,
     pub needs: Vec<u64>,
+    pub absent: Vec<u64>,
     pub adds: Vec<u64>,
     pub deletes: Vec<u64>,
     pub seconds: Vec<u16>,
@@ -222,11 +285,30 @@ pub struct Columns {
 impl Columns {
     pub fn of(jobs: &[Job]) -> Columns {
         Columns {
+            commands: jobs.iter().map(|job| job.command).collect(),
             needs: jobs.iter().map(|job| job.needs).collect(),
+            absent: jobs.iter().map(|job| job.absent).collect(),
             adds: jobs.iter().map(|job| job.adds).collect(),
             deletes: jobs.iter().map(|job| job.deletes).collect(),
             seconds: jobs.iter().map(|job| job.seconds).collect(),
         }
+    }
+
+    /// The jobs of columns of one length.
+    fn jobs(&self) -> Option<Vec<Job>> {
+        let lengths = [self.needs.len(), self.absent.len(), self.adds.len(), self.deletes.len(), self.seconds.len()];
+        if lengths.into_iter().any(|length| length != self.commands.len()) {
+            return None;
+        }
+        let job = |i: usize| Job {
+            command: self.commands[i],
+            needs: self.needs[i],
+            absent: self.absent[i],
+            adds: self.adds[i],
+            deletes: self.deletes[i],
+            seconds: self.seconds[i],
+        };
+        Some((0..self.commands.len()).map(job).collect())
     }
 }
 
@@ -234,6 +316,8 @@ impl Columns {
 #[derive(Clone, Copy, Debug, PartialEq, Eq)]
 pub enum Unwritten {
     Uneven,
+    /// This job's command is neither 0x20 nor 0x21, or is 0x20 and it needs a fact absent.
+    Unwritable(usize),
     Refused(Refusal),
     TooShort(usize),
 }
@@ -241,18 +325,12 @@ pub enum Unwritten {
 /// Writes a table that can be read back, and gives the number of its bytes. Anything else leaves `out` as it was. A number of facts that no
 /// byte holds is out of range (3) like any other.
 pub fn write_table(facts: usize, columns: &Columns, goal: u64, out: &mut [u8]) -> Result<usize, Unwritten> {
-    let count = columns.needs.len();
-    if [columns.adds.len(), columns.deletes.len(), columns.seconds.len()] != [count; 3] {
+    let Some(jobs) = columns.jobs() else {
         return Err(Unwritten::Uneven);
+    };
+    if let Some(row) = jobs.iter().position(|job| !job.is_writable()) {
+        return Err(Unwritten::Unwritable(row));
     }
-    let jobs: Vec<Job> = (0..count)
-        .map(|i| Job {
-            needs: columns.needs[i],
-            adds: columns.adds[i],
-            deletes: columns.deletes[i],
-            seconds: columns.seconds[i],
-        })
-        .collect();
     let Ok(facts) = u8::try_from(facts) else {
         return Err(Unwritten::Refused(Refusal { number: 3, place: 0 }));
     };
@@ -273,11 +351,55 @@ fn judge_reading(table: &Table, held: u64, unread: u64) -> Result<(), Refusal> {
     Ok(())
 }
 
+// ---- conditions
+
+/// "Conditions become pairs: facts to hold and facts to be absent" (document 02, W10). One of document 01 wants none absent.
+#[derive(Clone, Copy, Debug, PartialEq, Eq)]
+pub struct Condition {
+    pub present: u64,
+    pub absent: u64,
+}
+
+impl Condition {
+    pub fn plain(mask: u64) -> Condition {
+        Condition { present: mask, absent: 0 }
+    }
+
+    /// "one pair is part of another when both masks are"
+    pub fn is_part_of(&self, other: Condition) -> bool {
+        is_part(self.present, other.present) && is_part(self.absent, other.absent)
+    }
+
+    /// "when it holds all of the first and none of the second"
+    pub fn is_met_by(&self, state: u64) -> bool {
+        is_part(self.present, state) && self.absent & state == 0
+    }
+
+    /// "A pair that wants a fact both ways"
+    pub fn contradicts_itself(&self) -> bool {
+        self.present & self.absent != 0
+    }
+
+    /// "A condition fails if one of its facts is read and absent", or of the second ones held; "An unread fact of either mask leaves a condition
+    /// open unless a read one fails it" (document 02, W10).
+    pub fn status(&self, held: u64, unread: u64) -> Status {
+        let read_absent = !held & !unread;
+        let open = (self.present | self.absent) & unread;
+        if self.present & read_absent != 0 || self.absent & held != 0 {
+            Status::Failure
+        } else if open != 0 {
+            Status::Unsettled(open)
+        } else {
+            Status::Success
+        }
+    }
+}
+
 // ---- the plan
 
 #[derive(Clone, Copy, Debug, PartialEq, Eq)]
 pub struct Entry {
-    pub condition: u64,
+    pub condition: Condition,
     pub job: u8,
     pub parent: u16,
     pub depth: u16,
@@ -286,39 +408,47 @@ pub struct Entry {
 /// What ends an expansion.
 #[derive(Clone, Copy, Debug, PartialEq, Eq)]
 pub enum Ending {
-    /// The last entry is part of the start.
+    /// The start meets the last entry.
     Covered,
     /// A condition to be stored would exceed the capacity.
     Full,
-    /// Every entry is expanded and none is part of the start, if there is one.
+    /// Every entry is expanded and the start, if there is one, meets none.
     Exhausted,
 }
 
-/// "A job serves condition c when it adds a fact of c and deletes none."
-pub fn serves(job: &Job, condition: u64) -> bool {
-    job.adds & condition != 0 && job.deletes & condition == 0
+/// "A job serves a pair when it adds one of the first or deletes one of the second and undoes neither" (document 02, W10).
+pub fn serves(job: &Job, condition: Condition) -> bool {
+    let brings = job.adds & condition.present != 0 || job.deletes & condition.absent != 0;
+    let undoes = job.deletes & condition.present != 0 || job.adds & condition.absent != 0;
+    brings && !undoes
 }
 
-/// "its needs together with c without its adds"
-pub fn condition_before(job: &Job, condition: u64) -> u64 {
-    job.needs | (condition & !job.adds)
+/// "its needs to the first without its adds, and its absent facts to the second without its deletes" (document 02, W10)
+pub fn condition_before(job: &Job, condition: Condition) -> Condition {
+    Condition {
+        present: job.needs | (condition.present & !job.adds),
+        absent: job.absent | (condition.absent & !job.deletes),
+    }
 }
 
-/// Document 02, W6: "from the newest entry down to entry 0", "the newest that is a part".
-pub fn newest_part(listed: &[u64], condition: u64) -> Option<usize> {
-    listed.iter().rposition(|&part| is_part(part, condition))
+/// Document 02, W6: "from the newest entry down to entry 0", "the newest that is a part". The list is as long as its first masks; second masks
+/// that are not there are 0.
+pub fn newest_part(listed: &[u64], absences: &[u64], condition: Condition) -> Option<usize> {
+    let entry = |i: usize| Condition { present: listed[i], absent: absences.get(i).copied().unwrap_or(0) };
+    (0..listed.len()).rev().find(|i| entry(*i).is_part_of(condition))
 }
 
 /// The list of document 01's Expansion; without a start that of document 02, W2, which "stops only when all entries are expanded or number 10
 /// arises".
 pub fn expand(table: &Table, start: Option<u64>, capacity: usize) -> (Vec<Entry>, Ending) {
-    let covers_start = |condition| start.is_some_and(|start| is_part(condition, start));
+    let covers_start = |condition: Condition| start.is_some_and(|start| condition.is_met_by(start));
     let mut list: Vec<Entry> = Vec::new();
     if capacity == 0 {
         return (list, Ending::Full);
     }
-    list.push(Entry { condition: table.goal, job: NO_JOB, parent: 0, depth: 0 });
-    if covers_start(table.goal) {
+    let goal = Condition::plain(table.goal);
+    list.push(Entry { condition: goal, job: NO_JOB, parent: 0, depth: 0 });
+    if covers_start(goal) {
         return (list, Ending::Covered);
     }
     let mut expanded = 0;
@@ -329,7 +459,7 @@ pub fn expand(table: &Table, start: Option<u64>, capacity: usize) -> (Vec<Entry>
                 continue;
             }
             let condition = condition_before(job, parent.condition);
-            if list.iter().any(|listed| is_part(listed.condition, condition)) {
+            if condition.contradicts_itself() || list.iter().any(|listed| listed.condition.is_part_of(condition)) {
                 continue;
             }
             if list.len() == capacity {
@@ -345,8 +475,10 @@ pub fn expand(table: &Table, start: Option<u64>, capacity: usize) -> (Vec<Entry>
     (list, Ending::Exhausted)
 }
 
-/// The tree of a list: FALLBACK n; CONDITION of entry 0; for each later entry SEQUENCE 2, CONDITION, JOB; END.
-pub fn tree_bytes(list: &[Entry]) -> Vec<u8> {
+/// The tree of a table's list: FALLBACK n; CONDITION of entry 0; for each later entry SEQUENCE 2, CONDITION, JOB; END. A condition is a 0x45
+/// "once the table has a 0x21" (document 02, W10).
+pub fn tree_bytes(table: &Table, list: &[Entry]) -> Vec<u8> {
+    let paired = table.is_paired();
     let mut bytes = vec![FALLBACK];
     bytes.extend((list.len() as u16).to_le_bytes());
     for (i, entry) in list.iter().enumerate() {
@@ -354,8 +486,11 @@ pub fn tree_bytes(list: &[Entry]) -> Vec<u8> {
             bytes.push(SEQUENCE);
             bytes.extend(2u16.to_le_bytes());
         }
-        bytes.push(CONDITION);
-        bytes.extend(entry.condition.to_le_bytes());
+        bytes.push(if paired { PAIR } else { CONDITION });
+        bytes.extend(entry.condition.present.to_le_bytes());
+        if paired {
+            bytes.extend(entry.condition.absent.to_le_bytes());
+        }
         if i > 0 {
             bytes.extend([JOB_LEAF, entry.job]);
         }
@@ -394,32 +529,46 @@ pub fn minutes(seconds: i64) -> i64 {
     }
 }
 
-/// The five slices that a plan is lent.
+/// The slices that a plan is lent: the second masks ("a further lent table") are of account under a table with a 0x21 only.
 #[derive(Clone, Debug, Default, PartialEq, Eq)]
 pub struct Lent {
     pub conditions: Vec<u64>,
+    pub absences: Vec<u64>,
     pub jobs: Vec<u8>,
     pub parents: Vec<u16>,
     pub depths: Vec<u16>,
     pub tree: Vec<u8>,
 }
 
+/// How many elements of each slice are lent, in the order of `Lent`.
+pub type Lengths = [usize; 6];
+
 impl Lent {
     /// Slices of these lengths, each filled with a pattern.
-    pub fn filled(lengths: [usize; 5], pattern: u64) -> Lent {
+    pub fn filled(lengths: Lengths, pattern: u64) -> Lent {
         let fill = |i: usize| (i as u64 ^ pattern).wrapping_mul(0x9e37_79b9_7f4a_7c15);
         Lent {
             conditions: (0..lengths[0]).map(fill).collect(),
-            jobs: (0..lengths[1]).map(|i| (fill(i) >> 56) as u8).collect(),
-            parents: (0..lengths[2]).map(|i| (fill(i) >> 40) as u16).collect(),
-            depths: (0..lengths[3]).map(|i| (fill(i) >> 32) as u16).collect(),
-            tree: (0..lengths[4]).map(|i| (fill(i) >> 48) as u8).collect(),
+            absences: (0..lengths[1]).map(|i| fill(i).rotate_left(20)).collect(),
+            jobs: (0..lengths[2]).map(|i| (fill(i) >> 56) as u8).collect(),
+            parents: (0..lengths[3]).map(|i| (fill(i) >> 40) as u16).collect(),
+            depths: (0..lengths[4]).map(|i| (fill(i) >> 32) as u16).collect(),
+            tree: (0..lengths[5]).map(|i| (fill(i) >> 48) as u8).collect(),
         }
     }
 
-    fn store(&mut self, list: &[Entry]) {
+    /// All that a plan can use.
+    pub fn full() -> Lent {
+        Lent::filled([MOST_ENTRIES, MOST_ENTRIES, MOST_ENTRIES, MOST_ENTRIES, MOST_ENTRIES, MOST_TREE_BYTES], 0)
+    }
+
+    fn store(&mut self, table: &Table, list: &[Entry]) {
+        let paired = table.is_paired();
         for (i, entry) in list.iter().enumerate() {
-            self.conditions[i] = entry.condition;
+            self.conditions[i] = entry.condition.present;
+            if paired {
+                self.absences[i] = entry.condition.absent;
+            }
             self.jobs[i] = entry.job;
             self.parents[i] = entry.parent;
             self.depths[i] = entry.depth;
@@ -427,8 +576,8 @@ impl Lent {
     }
 
     /// The tree's bytes, or stop 12.
-    fn store_tree(&mut self, list: &[Entry]) -> Result<usize, Refusal> {
-        let tree = tree_bytes(list);
+    fn store_tree(&mut self, table: &Table, list: &[Entry]) -> Result<usize, Refusal> {
+        let tree = tree_bytes(table, list);
         if self.tree.len() < tree.len() {
             return refuse(12, list.len());
         }
@@ -436,9 +585,26 @@ impl Lent {
         Ok(tree.len())
     }
 
-    fn capacity(&self) -> usize {
-        let lengths = [self.conditions.len(), self.jobs.len(), self.parents.len(), self.depths.len(), MOST_ENTRIES];
-        lengths.into_iter().min().expect("five of them")
+    /// "the shortest of the four lent list tables", and with a 0x21 of the fifth, "which the capacity covers".
+    fn capacity(&self, table: &Table) -> usize {
+        let lengths = [self.conditions.len(), self.jobs.len(), self.parents.len(), self.depths.len()];
+        let four = lengths.into_iter().fold(table.most_entries(), usize::min);
+        if table.is_paired() {
+            four.min(self.absences.len())
+        } else {
+            four
+        }
+    }
+
+    /// The first entries of a table's list.
+    pub fn list(&self, paired: bool, entries: usize) -> Vec<Entry> {
+        let entry = |i: usize| Entry {
+            condition: Condition { present: self.conditions[i], absent: if paired { self.absences[i] } else { 0 } },
+            job: self.jobs[i],
+            parent: self.parents[i],
+            depth: self.depths[i],
+        };
+        (0..entries).map(entry).collect()
     }
 }
 
@@ -448,6 +614,16 @@ pub struct Planned {
     pub tree_bytes: usize,
     pub way_jobs: usize,
     pub way_minutes: i64,
+    /// Are there second masks?
+    pub paired: bool,
+}
+
+/// What a plan for the whole shift tells.
+#[derive(Clone, Copy, Debug, PartialEq, Eq)]
+pub struct ShiftPlanned {
+    pub entries: usize,
+    pub tree_bytes: usize,
+    pub paired: bool,
 }
 
 /// Plans from a start: the table's stops, then 8 to 12.
@@ -457,27 +633,34 @@ pub fn plan(table: &[u8], held: u64, unread: u64, lent: &mut Lent) -> Result<Pla
     if unread != 0 {
         return refuse(9, 0);
     }
-    let (list, ending) = expand(&table, Some(held), lent.capacity());
-    lent.store(&list);
+    let (list, ending) = expand(&table, Some(held), lent.capacity(&table));
+    lent.store(&table, &list);
     match ending {
         Ending::Full => return refuse(10, list.len()),
         Ending::Exhausted => return refuse(11, list.len()),
         Ending::Covered => {}
     }
-    let tree_bytes = lent.store_tree(&list)?;
+    let tree_bytes = lent.store_tree(&table, &list)?;
     let way = named(&table, &read_tree(&lent.tree[..tree_bytes], &table)?, held);
-    Ok(Planned { entries: list.len(), tree_bytes, way_jobs: way.len(), way_minutes: minutes(seconds_of(&table, &way)) })
+    Ok(Planned {
+        entries: list.len(),
+        tree_bytes,
+        way_jobs: way.len(),
+        way_minutes: minutes(seconds_of(&table, &way)),
+        paired: table.is_paired(),
+    })
 }
 
-/// Plans for the whole shift (document 02, W2), the table's stops, then 10 and 12: the entries and the bytes of the tree.
-pub fn plan_shift(table: &[u8], lent: &mut Lent) -> Result<(usize, usize), Refusal> {
+/// Plans for the whole shift (document 02, W2), the table's stops, then 10 and 12.
+pub fn plan_shift(table: &[u8], lent: &mut Lent) -> Result<ShiftPlanned, Refusal> {
     let table = read_table(table)?;
-    let (list, ending) = expand(&table, None, lent.capacity());
-    lent.store(&list);
+    let (list, ending) = expand(&table, None, lent.capacity(&table));
+    lent.store(&table, &list);
     if ending == Ending::Full {
         return refuse(10, list.len());
     }
-    Ok((list.len(), lent.store_tree(&list)?))
+    let tree_bytes = lent.store_tree(&table, &list)?;
+    Ok(ShiftPlanned { entries: list.len(), tree_bytes, paired: table.is_paired() })
 }
 
 // ---- the tree
@@ -492,7 +675,7 @@ pub enum Kind {
 #[derive(Clone, Debug, PartialEq, Eq)]
 pub enum Node {
     Inner { kind: Kind, children: Vec<Node> },
-    Condition { mask: u64, offset: usize },
+    Condition { condition: Condition, offset: usize },
     Job { number: u8, offset: usize },
 }
 
@@ -503,7 +686,7 @@ fn read_node(bytes: &[u8], table: &Table, at: &mut usize, depth: usize) -> Resul
     let Some(&command) = bytes.get(offset) else {
         return refuse(13, bytes.len());
     };
-    if ![FALLBACK, SEQUENCE, CONDITION, JOB_LEAF].contains(&command) {
+    if ![FALLBACK, SEQUENCE, CONDITION, JOB_LEAF, PAIR].contains(&command) {
         return refuse(13, offset);
     }
     let end = offset + 1 + width_of(command);
@@ -522,12 +705,13 @@ fn read_node(bytes: &[u8], table: &Table, at: &mut usize, depth: usize) -> Resul
     }
     *at = end;
     match command {
-        CONDITION => {
-            let mask = u64_at(operands, 0);
-            if !table.has_only_known_facts(mask) {
+        CONDITION | PAIR => {
+            let absent = if command == PAIR { u64_at(operands, 8) } else { 0 };
+            let condition = Condition { present: u64_at(operands, 0), absent };
+            if !table.has_only_known_facts(condition.present | condition.absent) {
                 return refuse(15, offset);
             }
-            Ok(Node::Condition { mask, offset })
+            Ok(Node::Condition { condition, offset })
         }
         JOB_LEAF => {
             let number = operands[0];
@@ -582,17 +766,7 @@ pub struct Ticked {
 /// Ticks a node on a sound reading.
 pub fn tick_node(node: &Node, held: u64, unread: u64) -> Ticked {
     match node {
-        Node::Condition { mask, offset } => {
-            let absent = !held & !unread;
-            let status = if mask & absent != 0 {
-                Status::Failure
-            } else if mask & unread != 0 {
-                Status::Unsettled(mask & unread)
-            } else {
-                Status::Success
-            };
-            Ticked { status, leaf: *offset }
-        }
+        Node::Condition { condition, offset } => Ticked { status: condition.status(held, unread), leaf: *offset },
         Node::Job { number, offset } => Ticked { status: Status::Running(*number), leaf: *offset },
         Node::Inner { kind, children } => {
             let goes_on = match kind {
@@ -667,7 +841,7 @@ pub fn report(table: &[u8], number: usize, seconds: u16, card: &mut Card) -> Res
     let Some(job) = table.jobs.get(number) else {
         return refuse(16, 0);
     };
-    if !job.is_applicable(card.held) {
+    if !job.is_applicable(card.held, card.unread) {
         return refuse(17, 0);
     }
     let most = |seconds: u16| u64::from(seconds) * u64::from(card.reports);
@@ -703,16 +877,18 @@ fn bayplan_lines(table: &[u8], start: &[u8]) -> Result<String, Refusal> {
     if start.len() != 16 {
         return refuse(8, 0);
     }
-    let mut lent = Lent::filled([MOST_ENTRIES, MOST_ENTRIES, MOST_ENTRIES, MOST_ENTRIES, MOST_TREE_BYTES], 0);
+    let mut lent = Lent::full();
     let planned = plan(table, u64_at(start, 0), u64_at(start, 8), &mut lent)?;
-    let mut text = String::new();
-    let written = "a string takes every line";
-    writeln!(text, "plan {} {}", planned.entries, planned.tree_bytes).expect(written);
-    for i in 0..planned.entries {
-        let job = if lent.jobs[i] == NO_JOB { "-".to_string() } else { lent.jobs[i].to_string() };
-        writeln!(text, "{} {:016x} {} {} {}", i, lent.conditions[i], job, lent.parents[i], lent.depths[i])
-            .expect(written);
+    Ok(plan_text(&planned, &lent))
+}
+
+/// A plan as it is printed; of a table with a 0x21 with the second masks, "each after the first" (document 02, W10).
+pub fn plan_text(planned: &Planned, lent: &Lent) -> String {
+    let mut text = format!("plan {} {}\n", planned.entries, planned.tree_bytes);
+    for (i, entry) in lent.list(planned.paired, planned.entries).iter().enumerate() {
+        let second = if planned.paired { format!("{:016x} ", entry.condition.absent) } else { String::new() };
+        let job = if entry.job == NO_JOB { "-".to_string() } else { entry.job.to_string() };
+        text += &format!("{i} {:016x} {second}{job} {} {}\n", entry.condition.present, entry.parent, entry.depth);
     }
-    writeln!(text, "way {} {}", planned.way_jobs, planned.way_minutes).expect(written);
-    Ok(text)
+    text + &format!("way {} {}\n", planned.way_jobs, planned.way_minutes)
 }

@@ -1,10 +1,13 @@
-//! The engine on the cases that document 01 prints.
+//! The engine on the cases that document 01 prints, on the trailer with one fact less, and against brute force.
 
+use crate::brute;
 use crate::engine::*;
-use crate::trailer;
+use crate::make::{self, Jobs};
+use crate::random::Random;
+use crate::trailer::{self, one_fact_less};
 
 fn lent(capacity: usize) -> Lent {
-    Lent::filled([capacity, capacity, capacity, capacity, MOST_TREE_BYTES], 7)
+    Lent::filled([capacity, capacity, capacity, capacity, capacity, MOST_TREE_BYTES], 7)
 }
 
 /// Entries, tree bytes and jobs of the way from a start, or number and place.
@@ -95,7 +98,7 @@ fn run_from_p1_is_3_1_2_4() {
     let mut run = Vec::new();
     while let Status::Running(job) = trailer_tick(held, 0) {
         run.push(job);
-        assert!(jobs[usize::from(job)].is_applicable(held));
+        assert!(jobs[usize::from(job)].is_applicable(held, 0));
         held = jobs[usize::from(job)].finish(held);
     }
     assert_eq!(run, [3, 1, 2, 4]);
@@ -158,6 +161,201 @@ fn stops_of_the_table() {
 }
 
 #[test]
+fn stops_of_a_job_that_needs_a_fact_absent() {
+    let job = Job::paired(0x01, 0x02, 0x06, 0x08, 60);
+    let stop =
+        |job: Job| read_table(&table_bytes(5, &[trailer::jobs()[2], job], 0)).err().map(|refusal| refusal.number);
+    // Adds and deletes may meet the absent facts.
+    assert_eq!(stop(job), None);
+    assert_eq!(stop(Job { deletes: 0x0a, adds: 0x04, ..job }), None);
+    assert_eq!(table_stop(&table_bytes(5, &[trailer::jobs()[2], Job { absent: 0x03, ..job }], 0)), (22, 29));
+    // 5 of all four masks, 6, 19, 22.
+    for bad in [
+        Job { needs: 0x21, ..job },
+        Job { absent: 0x22, ..job },
+        Job { adds: 0x26, ..job },
+        Job { deletes: 0x28, ..job },
+        Job { absent: 0x23, needs: 0x07, seconds: 5_401, ..job },
+    ] {
+        assert_eq!(stop(bad), Some(5));
+    }
+    assert_eq!(stop(Job { needs: 0x06, seconds: 5_401, ..job }), Some(6));
+    assert_eq!(stop(Job { deletes: 0x02, seconds: 5_401, ..job }), Some(6));
+    assert_eq!(stop(Job { needs: 0x02, adds: 0x04, seconds: 5_401, ..job }), Some(19));
+    assert_eq!(stop(Job { needs: 0x02, adds: 0x04, ..job }), Some(22));
+    // 22 comes before whatever is wrong in a later command, and 4 before it.
+    let contradictory = Job { absent: 0x01, ..job };
+    assert_eq!(table_stop(&table_bytes(5, &[contradictory, Job { needs: 0x04, ..job }], 0x20)), (22, 2));
+    assert_eq!(table_stop(&table_bytes(5, &[contradictory; 129], 0)), (22, 2));
+    let many = [&[job; 128][..], &[contradictory]].concat();
+    assert_eq!(table_stop(&table_bytes(5, &many, 0)), (4, 2 + 35 * 128));
+    // Cut operands, and a job of either command after the other.
+    let bytes = table_bytes(5, &[job, trailer::jobs()[2]], 0);
+    assert_eq!(table_stop(&bytes[..36]), (1, 2));
+    assert_eq!(table_stop(&bytes[..37]), (1, 37));
+    assert_eq!(table_stop(&bytes[..38]), (1, 37));
+    assert_eq!(bytes.len(), 2 + 35 + 27 + 10);
+    assert_eq!(read_table(&bytes).unwrap().jobs, [job, trailer::jobs()[2]]);
+}
+
+#[test]
+fn a_table_is_written_by_its_commands() {
+    let jobs = one_fact_less::jobs();
+    let write = |columns: &Columns, facts: usize, room: usize| write_table(facts, columns, 0x08, &mut vec![0; room]);
+    let columns = Columns::of(&jobs);
+    assert_eq!(write(&columns, 4, 163), Ok(163));
+    assert_eq!(write(&columns, 4, 162), Err(Unwritten::TooShort(163)));
+    let mut uneven = columns.clone();
+    uneven.commands[0] = 0x30;
+    uneven.absent.pop();
+    assert_eq!(write(&uneven, 300, 0), Err(Unwritten::Uneven));
+    // Before any number of a reader: no bytes stand for such a row.
+    for (row, command, absent) in [(1, 0x22, 0), (1, 0, 0), (3, JOB, 0x02), (4, JOB, 1 << 63), (0, JOB, 0x01)] {
+        let mut unwritable = columns.clone();
+        unwritable.commands[row] = command;
+        unwritable.absent[row] = absent;
+        unwritable.needs[0] = 0xff;
+        assert_eq!(write(&unwritable, 300, 0), Err(Unwritten::Unwritable(row)));
+    }
+    let mut without = columns.clone();
+    without.absent[0] = 0;
+    assert_eq!(write(&without, 4, 163), Ok(163));
+    without.commands[0] = JOB;
+    assert_eq!(write(&without, 4, 163), Ok(155));
+    assert_eq!(write(&columns, 300, 0), Err(Unwritten::Refused(Refusal { number: 3, place: 0 })));
+}
+
+#[test]
+fn trailer_with_one_fact_less() {
+    let bytes = one_fact_less::table();
+    assert_eq!(bytes.len(), 163);
+    let table = read_table(&bytes).unwrap();
+    assert_eq!((table.facts, table.goal, &table.jobs), (4, 0x08, &one_fact_less::jobs()));
+    assert_eq!(bayplan(&bytes, &trailer::start(0x01, 0)), one_fact_less::PRINTED);
+
+    let mut lists = lent(MOST_ENTRIES);
+    let planned = plan(&bytes, 0x01, 0, &mut lists).unwrap();
+    let root = read_tree(&lists.tree[..planned.tree_bytes], &table).unwrap();
+    assert_eq!(named(&table, &root, 0x01), [3, 1, 2, 4]);
+    assert_eq!(planned, Planned { entries: 7, tree_bytes: 153, way_jobs: 4, way_minutes: 26, paired: true });
+    // The trailer itself decides: unread, it is asked for where it matters, held or absent.
+    let status = |held, unread| tick_node(&root, held, unread).status;
+    assert_eq!(status(0x00, 0), Status::Failure);
+    assert_eq!(status(0x00, 0x01), Status::Unsettled(0x01));
+    assert_eq!(status(0x04, 0x01), Status::Unsettled(0x01));
+    assert_eq!(status(0x04, 0), Status::Running(2));
+    assert_eq!(status(0x05, 0), Status::Running(1));
+    assert_eq!(status(0x06, 0x01), Status::Running(4));
+    assert_eq!(status(0x08, 0x07), Status::Success);
+    // The whole list has one entry more, for a vehicle that comes without its trailer.
+    let (whole, ending) = expand(&table, None, MOST_PAIR_ENTRIES);
+    assert_eq!((whole.len(), ending), (8, Ending::Exhausted));
+    assert_eq!(whole[7].condition, Condition { present: 0, absent: 0x01 });
+    assert_eq!(way_from(&whole, 7), [2, 0, 3, 4]);
+}
+
+/// Document 02, W10: an entry that is never the first one met, as pairs can have it.
+#[test]
+fn a_dead_line_with_pairs() {
+    let jobs = vec![Job::paired(0, 1, 3, 0, 1), Job::plain(0, 1, 0, 1)];
+    let (list, _) = expand(&Table { facts: 2, jobs, goal: 3 }, None, MOST_PAIR_ENTRIES);
+    let conditions: Vec<(u64, u64)> =
+        list.iter().map(|entry| (entry.condition.present, entry.condition.absent)).collect();
+    assert_eq!(conditions, [(3, 0), (0, 1), (2, 0)]);
+    assert_eq!(
+        (0..4).map(|state| brute::first_met(&list, state)).collect::<Vec<_>>(),
+        [Some(1), None, Some(1), Some(0)]
+    );
+}
+
+#[test]
+fn capacity_of_pairs() {
+    let table = make::long_table(12, 0, Jobs::Paired);
+    let bytes = table.bytes();
+    let whole = expand(&table, None, MOST_ENTRIES).0;
+    assert_eq!(whole.len(), 4_096);
+    let plan_to = |entries: usize, lengths: [usize; 6]| {
+        let start = make::long_state(&table, &whole[entries - 1]);
+        let planned = plan(&bytes, start, 0, &mut Lent::filled(lengths, 3));
+        planned.map(|planned| (planned.entries, planned.tree_bytes)).map_err(|refusal| (refusal.number, refusal.place))
+    };
+    let ample = [4_096, 4_096, 4_096, 4_096, 4_096, 65_535];
+    assert_eq!(plan_to(2_978, ample), Ok((2_978, 65_515)));
+    assert_eq!(plan_to(2_979, ample), Err((10, 2_978)));
+    let mut shorter = ample;
+    shorter[1] = 2_977;
+    assert_eq!(plan_to(2_978, shorter), Err((10, 2_977)));
+    assert_eq!(plan_to(2_977, shorter), Ok((2_977, 65_493)));
+    assert_eq!(plan_to(2_978, [2_978, 2_978, 2_978, 2_978, 2_978, 65_514]), Err((12, 2_978)));
+    // A counter whose whole list has just so many entries.
+    let shift = |last: u64| {
+        let planned = plan_shift(&make::pair_counter_table(12, last, 1).bytes(), &mut Lent::filled(ample, 3));
+        planned.map(|planned| planned.entries).map_err(|refusal| (refusal.number, refusal.place))
+    };
+    assert_eq!(shift(2_976), Ok(2_978));
+    assert_eq!(shift(2_977), Err((10, 2_978)));
+}
+
+/// The second masks of a table without 0x21 are of no account, of whatever length they are lent.
+#[test]
+fn plain_tables_leave_second_masks_alone() {
+    for length in [0, 1, 7, 8, 4_096, 5_000] {
+        let mut lists = Lent::filled([8, length, 8, 8, 8, 111], 5);
+        let before = lists.absences.clone();
+        let planned = plan(&trailer::table(), 0x02, 0, &mut lists).unwrap();
+        assert_eq!((planned.entries, planned.paired, lists.absences), (8, false, before));
+    }
+}
+
+/// Small tables by brute force, over all states and all readings: demand 3, no way, the whole shift's cover, and Unsettled.
+fn by_brute_force(kind: Jobs, cases: u64) {
+    for index in 0..cases {
+        let random = &mut Random::for_case(1, "engine", index);
+        let table = make::small_table(random, index, kind);
+        let distance = brute::distances(&table);
+        let check = |list: &[Entry]| {
+            let root = read_tree(&tree_bytes(&table, list), &table).unwrap();
+            brute::check_runs(&table, list, &distance, |state| Ok(tick_node(&root, state, 0)));
+            for unread in 0..1 << table.facts {
+                let held = random_part(index ^ unread, all_facts(table.facts) & !unread);
+                brute::check_unsettled(held, unread, |held, unread| tick_node(&root, held, unread));
+            }
+        };
+        let (whole, ending) = expand(&table, None, table.most_entries());
+        assert_eq!(ending, Ending::Exhausted);
+        brute::check_cover(&table, &whole, &distance);
+        check(&whole);
+        for start in 0..1 << table.facts {
+            let (list, ending) = expand(&table, Some(start), table.most_entries());
+            assert_eq!(list, whole[..list.len()]);
+            assert_eq!(ending == Ending::Covered, distance[start as usize].is_some(), "from {start:x}");
+            if ending == Ending::Covered {
+                assert_eq!(brute::first_met(&list, start), Some(list.len() - 1));
+                check(&list);
+            }
+        }
+        if kind == Jobs::Plain {
+            brute::check_no_dead_lines(&table, &whole);
+        }
+    }
+}
+
+/// Any facts of a mask.
+fn random_part(seed: u64, mask: u64) -> u64 {
+    Random::new(seed).next() & mask
+}
+
+#[test]
+fn plain_tables_by_brute_force() {
+    by_brute_force(Jobs::Plain, 120);
+}
+
+#[test]
+fn pair_tables_by_brute_force() {
+    by_brute_force(Jobs::Paired, 400);
+}
+
+#[test]
 fn stops_of_the_tree() {
     let table = read_table(&trailer::table()).unwrap();
     let stop = |bytes: &[u8]| read_tree(bytes, &table).map_err(|refusal| (refusal.number, refusal.place)).err();
@@ -181,6 +379,32 @@ fn stops_of_the_tree() {
     assert_eq!(stop(&chain(16, &[JOB_LEAF, 9, END_OF_TREE])), Some((14, 48)));
     assert_eq!(stop(&chain(16, &[SEQUENCE, 0, 0])), Some((13, 48)));
     assert_eq!(stop(&chain(16, &[])), Some((13, 48)));
+    // A pair stands in any tree, and both of its masks are judged.
+    let pair = |present, absent| [make::pair_condition(present, absent), vec![END_OF_TREE]].concat();
+    assert_eq!(stop(&pair(0x10, 0x11)), None);
+    assert_eq!(stop(&pair(0x20, 0)), Some((15, 0)));
+    assert_eq!(stop(&pair(0, 0x20)), Some((15, 0)));
+    assert_eq!(stop(&pair(0, 0)[..16]), Some((13, 0)));
+    assert_eq!(stop(&pair(0, 0)[..17]), Some((13, 17)));
+    assert_eq!(stop(&chain(16, &pair(0, 0x20))), Some((14, 48)));
+    assert_eq!(stop(&[0x46, END_OF_TREE]), Some((13, 0)));
+}
+
+/// "An unread fact of either mask leaves a condition open unless a read one fails it."
+#[test]
+fn a_pair_on_a_reading() {
+    let pair = Condition { present: 0x03, absent: 0x0c };
+    assert_eq!(pair.status(0x03, 0), Status::Success);
+    assert_eq!(pair.status(0x13, 0x20), Status::Success);
+    assert_eq!(pair.status(0x01, 0), Status::Failure);
+    assert_eq!(pair.status(0x07, 0), Status::Failure);
+    assert_eq!(pair.status(0x02, 0x29), Status::Unsettled(0x09));
+    assert_eq!(pair.status(0x06, 0x01), Status::Failure);
+    assert_eq!(pair.status(0x02, 0x0c), Status::Failure);
+    // A fact wanted both ways: read, it fails; unread, it is open, though no way of filling it in meets it.
+    let both = Condition { present: 1, absent: 1 };
+    assert_eq!((both.status(0, 0), both.status(1, 0)), (Status::Failure, Status::Failure));
+    assert_eq!(both.status(0, 1), Status::Unsettled(1));
 }
 
 #[test]
@@ -202,4 +426,11 @@ fn stops_of_a_report_come_in_order() {
     assert_eq!(number(Card { reports: 1, taken: 65_535, ..card }, 0), None);
     assert_eq!(number(Card { reports: 1, taken: 65_536, ..card }, 0), Some(18));
     assert_eq!(number(Card { reports: 65_534, taken: 65_534 * 65_535, planned: 65_534 * 5_400, ..card }, 0), None);
+    // Of the trailer with one fact less, coupling needs the trailer absent, and read so.
+    let table = one_fact_less::table();
+    let number = |held, unread| {
+        let card = Card { held, unread, reports: 65_535, ..Card::default() };
+        report(&table, 0, 1, &mut { card }).map_err(|refusal| refusal.number).err()
+    };
+    assert_eq!((number(0x01, 0), number(0x00, 0x01), number(0x00, 0x0e)), (Some(17), Some(17), Some(18)));
 }

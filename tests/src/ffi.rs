@@ -5,15 +5,19 @@
 
 use std::sync::atomic::{AtomicU64, Ordering};
 
-use bay_tests::engine::{Card, Columns, Lent};
+use bay_tests::engine::{Card, Columns, Condition, Lent};
 
 extern "C" {
     fn bay_read_table(table: *const u8, table_len: usize, answer: *mut u64) -> u64;
     fn bay_read_job(table: *const u8, table_len: usize, job: usize, answer: *mut u64) -> u64;
     fn bay_write_table(
         facts: usize,
+        commands: *const u8,
+        commands_len: usize,
         needs: *const u64,
         needs_len: usize,
+        absent: *const u64,
+        absent_len: usize,
         adds: *const u64,
         adds_len: usize,
         deletes: *const u64,
@@ -32,6 +36,8 @@ extern "C" {
         unread: u64,
         conditions: *mut u64,
         conditions_len: usize,
+        absences: *mut u64,
+        absences_len: usize,
         jobs: *mut u8,
         jobs_len: usize,
         parents: *mut u16,
@@ -47,6 +53,8 @@ extern "C" {
         table_len: usize,
         conditions: *mut u64,
         conditions_len: usize,
+        absences: *mut u64,
+        absences_len: usize,
         jobs: *mut u8,
         jobs_len: usize,
         parents: *mut u16,
@@ -57,7 +65,15 @@ extern "C" {
         tree_len: usize,
         answer: *mut u64,
     ) -> u64;
-    fn bay_newest_weaker(listed: *const u64, listed_len: usize, condition: u64, answer: *mut u64) -> u64;
+    fn bay_newest_weaker(
+        listed: *const u64,
+        listed_len: usize,
+        absences: *const u64,
+        absences_len: usize,
+        present: u64,
+        absent: u64,
+        answer: *mut u64,
+    ) -> u64;
     fn bay_tick(
         table: *const u8,
         table_len: usize,
@@ -106,6 +122,7 @@ extern "C" {
 pub const TOO_SHORT: u64 = 100;
 pub const UNEVEN: u64 = 101;
 pub const SECONDS_OUT_OF_RANGE: u64 = 102;
+pub const UNWRITABLE: u64 = 103;
 pub const SUCCESS: u64 = 0;
 pub const FAILURE: u64 = 1;
 pub const RUNNING: u64 = 2;
@@ -120,7 +137,7 @@ pub fn calls() -> u64 {
 
 const PATTERN: u64 = 0xa5c3_96f0_5a3c_690f;
 const SPARE: usize = 2;
-const LONGEST: usize = 5;
+const LONGEST: usize = 7;
 
 /// Calls with an answer of `N` words.
 fn answer_of<const N: usize>(call: impl FnOnce(*mut u64) -> u64) -> [u64; N] {
@@ -134,11 +151,11 @@ fn answer_of<const N: usize>(call: impl FnOnce(*mut u64) -> u64) -> [u64; N] {
     answer
 }
 
-pub fn read_table(table: &[u8]) -> [u64; 4] {
+pub fn read_table(table: &[u8]) -> [u64; 5] {
     answer_of(|answer| unsafe { bay_read_table(table.as_ptr(), table.len(), answer) })
 }
 
-pub fn read_job(table: &[u8], job: usize) -> [u64; 5] {
+pub fn read_job(table: &[u8], job: usize) -> [u64; 7] {
     answer_of(|answer| unsafe { bay_read_job(table.as_ptr(), table.len(), job, answer) })
 }
 
@@ -146,8 +163,12 @@ pub fn write_table(facts: usize, columns: &Columns, goal: u64, out: &mut [u8]) -
     answer_of(|answer| unsafe {
         bay_write_table(
             facts,
+            columns.commands.as_ptr(),
+            columns.commands.len(),
             columns.needs.as_ptr(),
             columns.needs.len(),
+            columns.absent.as_ptr(),
+            columns.absent.len(),
             columns.adds.as_ptr(),
             columns.adds.len(),
             columns.deletes.as_ptr(),
@@ -162,7 +183,7 @@ pub fn write_table(facts: usize, columns: &Columns, goal: u64, out: &mut [u8]) -
     })
 }
 
-pub fn plan(table: &[u8], held: u64, unread: u64, lent: &mut Lent) -> [u64; 5] {
+pub fn plan(table: &[u8], held: u64, unread: u64, lent: &mut Lent) -> [u64; 6] {
     answer_of(|answer| unsafe {
         bay_plan(
             table.as_ptr(),
@@ -171,6 +192,8 @@ pub fn plan(table: &[u8], held: u64, unread: u64, lent: &mut Lent) -> [u64; 5] {
             unread,
             lent.conditions.as_mut_ptr(),
             lent.conditions.len(),
+            lent.absences.as_mut_ptr(),
+            lent.absences.len(),
             lent.jobs.as_mut_ptr(),
             lent.jobs.len(),
             lent.parents.as_mut_ptr(),
@@ -184,13 +207,15 @@ pub fn plan(table: &[u8], held: u64, unread: u64, lent: &mut Lent) -> [u64; 5] {
     })
 }
 
-pub fn plan_shift(table: &[u8], lent: &mut Lent) -> [u64; 3] {
+pub fn plan_shift(table: &[u8], lent: &mut Lent) -> [u64; 4] {
     answer_of(|answer| unsafe {
         bay_plan_shift(
             table.as_ptr(),
             table.len(),
             lent.conditions.as_mut_ptr(),
             lent.conditions.len(),
+            lent.absences.as_mut_ptr(),
+            lent.absences.len(),
             lent.jobs.as_mut_ptr(),
             lent.jobs.len(),
             lent.parents.as_mut_ptr(),
@@ -204,8 +229,18 @@ pub fn plan_shift(table: &[u8], lent: &mut Lent) -> [u64; 3] {
     })
 }
 
-pub fn newest_weaker(listed: &[u64], condition: u64) -> [u64; 3] {
-    answer_of(|answer| unsafe { bay_newest_weaker(listed.as_ptr(), listed.len(), condition, answer) })
+pub fn newest_weaker(listed: &[u64], absences: &[u64], condition: Condition) -> [u64; 3] {
+    answer_of(|answer| unsafe {
+        bay_newest_weaker(
+            listed.as_ptr(),
+            listed.len(),
+            absences.as_ptr(),
+            absences.len(),
+            condition.present,
+            condition.absent,
+            answer,
+        )
+    })
 }
 
 pub fn tick(table: &[u8], tree: &[u8], held: u64, unread: u64) -> [u64; 3] {

@@ -1,8 +1,8 @@
-//! docs/FORMATS.md: the bytes that it lists are the trailer's, what it prints is what `bayplan` prints, and no number is left out.
+//! docs/FORMATS.md: the bytes that it lists are those of both trailers, what it prints is what `bayplan` prints, and no number is left out.
 
 use crate::engine::{expand, read_table, tree_bytes, MOST_ENTRIES};
 use crate::header_tests::{file, refusals};
-use crate::trailer;
+use crate::trailer::{self, one_fact_less};
 
 /// The lines under a heading, up to the next one.
 fn section(page: &str, heading: &str) -> Vec<String> {
@@ -26,21 +26,29 @@ fn listed_bytes(lines: &[String]) -> Vec<u8> {
     bytes
 }
 
+/// The bytes of the tree that a table's plan for a start writes.
+fn tree_of(table: &[u8], start: u64) -> Vec<u8> {
+    let table = read_table(table).expect("sound");
+    tree_bytes(&table, &expand(&table, Some(start), MOST_ENTRIES).0)
+}
+
 #[test]
 fn listed_bytes_are_the_trailers() {
     let page = file("docs/FORMATS.md");
-    assert_eq!(listed_bytes(&section(&page, "### The trailer's table")), trailer::table());
-    assert_eq!(listed_bytes(&section(&page, "## A start")), trailer::start(0x02, 0));
-    let table = read_table(&trailer::table()).expect("sound");
-    let tree = tree_bytes(&expand(&table, Some(0x02), MOST_ENTRIES).0);
-    assert_eq!(listed_bytes(&section(&page, "### The trailer's tree")), tree);
+    let listed = |heading| listed_bytes(&section(&page, heading));
+    assert_eq!(listed("### The trailer's table"), trailer::table());
+    assert_eq!(listed("## A start"), trailer::start(0x02, 0));
+    assert_eq!(listed("### The trailer's tree"), tree_of(&trailer::table(), 0x02));
+    assert_eq!(listed("### The table with one fact less"), one_fact_less::table());
+    assert_eq!(listed("### The tree with one fact less"), tree_of(&one_fact_less::table(), 0x01));
 }
 
 #[test]
 fn printed_text_is_bayplans() {
     let page = file("docs/FORMATS.md");
-    assert!(page.contains(&format!("```\n{}```\n", trailer::PRINTED)));
-    assert!(page.contains(&format!("```\n{}```\n", file("examples/damaged_table/expected.txt"))));
+    for text in [trailer::PRINTED, one_fact_less::PRINTED, &file("examples/damaged_table/expected.txt")] {
+        assert!(page.contains(&format!("```\n{text}```\n")), "there is no block of\n{text}");
+    }
 }
 
 #[test]

@@ -1,6 +1,8 @@
 //! Document 01 in plain Rust, and what the tests share.
 
+pub mod brute;
 pub mod engine;
+pub mod make;
 pub mod random;
 pub mod trailer;
 

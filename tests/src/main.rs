@@ -25,7 +25,7 @@ thread_local! {
 
 /// Runs one case and gives what went wrong.
 fn failure_of(group: &compare::Group, seed: u64, index: u64) -> Option<String> {
-    let mut random = Random::for_case(seed, group.name, index);
+    let mut random = Random::for_case(seed, &group.name, index);
     let outcome = panic::catch_unwind(panic::AssertUnwindSafe(|| (group.run)(&mut random, index)));
     outcome.err().map(|_| MESSAGE.with(|message| message.borrow().clone()))
 }
@@ -56,7 +56,7 @@ fn main() {
     println!("seed {seed}");
     let (mut passed, mut failed) = (0, 0);
     for group in compare::groups() {
-        if only.as_ref().is_some_and(|name| name != group.name) {
+        if only.as_ref().is_some_and(|name| *name != group.name) {
             continue;
         }
         // The name goes out first: should the library crash, it says where.

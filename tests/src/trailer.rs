@@ -1,4 +1,4 @@
-//! Document 01's trailer on the hitch.
+//! Document 01's trailer on the hitch, and the same with one fact less.
 
 use crate::engine::{table_bytes, Job};
 
@@ -6,13 +6,12 @@ pub const FACTS: u8 = 5;
 pub const GOAL: u64 = 0x10;
 
 pub fn jobs() -> Vec<Job> {
-    let job = |needs, adds, deletes, seconds| Job { needs, adds, deletes, seconds };
     vec![
-        job(0x01, 0x02, 0x01, 300), // couple
-        job(0x02, 0x01, 0x02, 240), // uncouple
-        job(0x01, 0x04, 0x00, 600), // measure unloaded
-        job(0x02, 0x08, 0x00, 600), // measure loaded
-        job(0x0c, 0x10, 0x00, 150), // seal
+        Job::plain(0x01, 0x02, 0x01, 300), // couple
+        Job::plain(0x02, 0x01, 0x02, 240), // uncouple
+        Job::plain(0x01, 0x04, 0x00, 600), // measure unloaded
+        Job::plain(0x02, 0x08, 0x00, 600), // measure loaded
+        Job::plain(0x0c, 0x10, 0x00, 150), // seal
     ]
 }
 
@@ -37,3 +36,38 @@ pub const PRINTED: &str = "plan 8 111
 7 0000000000000002 3 4 4
 way 4 26
 ";
+
+/// The trailer without a fact for "trailer off": "Some jobs need the trailer to be off, and a second fact for that is clumsy" (document 02, W10).
+/// 0 trailer on, 1 unloaded known, 2 loaded known, 3 sealed.
+pub mod one_fact_less {
+    use crate::engine::{table_bytes, Job};
+
+    pub const FACTS: u8 = 4;
+    pub const GOAL: u64 = 0x08;
+
+    pub fn jobs() -> Vec<Job> {
+        vec![
+            Job::paired(0x00, 0x01, 0x01, 0x00, 300), // couple
+            Job::plain(0x01, 0x00, 0x01, 240),        // uncouple
+            Job::paired(0x00, 0x01, 0x02, 0x00, 600), // measure unloaded
+            Job::plain(0x01, 0x04, 0x00, 600),        // measure loaded
+            Job::plain(0x06, 0x08, 0x00, 150),        // seal
+        ]
+    }
+
+    pub fn table() -> Vec<u8> {
+        table_bytes(FACTS, &jobs(), GOAL)
+    }
+
+    /// What `bayplan` prints for held 01.
+    pub const PRINTED: &str = "plan 7 153
+0 0000000000000008 0000000000000000 - 0 0
+1 0000000000000006 0000000000000000 4 0 1
+2 0000000000000004 0000000000000001 2 1 2
+3 0000000000000003 0000000000000000 3 1 2
+4 0000000000000005 0000000000000000 1 2 3
+5 0000000000000002 0000000000000001 0 3 3
+6 0000000000000001 0000000000000000 3 4 4
+way 4 26
+";
+}

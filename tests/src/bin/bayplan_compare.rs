@@ -10,10 +10,14 @@ use std::path::Path;
 use std::process::Command;
 
 use bay_tests::engine::*;
+use bay_tests::make::Jobs::{Paired, Plain};
 use bay_tests::random::Random;
-use bay_tests::trailer;
+use bay_tests::trailer::one_fact_less;
+use bay_tests::{make, trailer};
 
 const SEED: u64 = 20_240_608;
+/// In how many folders it is run.
+const FOLDERS: usize = 1_000;
 
 /// The two files of a folder; None stands for a missing one.
 struct Case {
@@ -24,31 +28,6 @@ struct Case {
 
 fn case(name: &str, table: &[u8], start: &[u8]) -> Case {
     Case { name: name.to_string(), table: Some(table.to_vec()), start: Some(start.to_vec()) }
-}
-
-fn random_job(random: &mut Random, facts: u32) -> Job {
-    let adds = random.facts(facts, 1) | 1 << random.below(facts as usize);
-    let needs = random.facts(facts, 2) & !adds;
-    let deletes = random.facts(facts, 2) & !adds;
-    Job { needs, adds, deletes, seconds: random.below(4_000) as u16 }
-}
-
-fn random_table(random: &mut Random) -> Table {
-    let facts = *random.pick(&[1, 3, 4, 5, 6, 8, 12, 63, 64]);
-    let jobs = (0..random.below(12)).map(|_| random_job(random, facts)).collect();
-    Table { facts, jobs, goal: random.facts(facts, 2) | 1 << random.below(facts as usize) }
-}
-
-fn bytes_of(table: &Table) -> Vec<u8> {
-    table_bytes(table.facts as u8, &table.jobs, table.goal)
-}
-
-/// Facts to reach, each with one job from a fact of its own: a list of 2^pairs entries.
-fn long_table(pairs: usize) -> (Vec<u8>, u64) {
-    let job = |i: usize| Job { needs: 1 << (pairs + i), adds: 1 << i, deletes: 0, seconds: 100 };
-    let jobs: Vec<Job> = (0..pairs).map(job).collect();
-    let goal = all_facts(pairs as u32);
-    (table_bytes(2 * pairs as u8, &jobs, goal), goal << pairs)
 }
 
 fn fixed_cases() -> Vec<Case> {
@@ -84,38 +63,99 @@ fn fixed_cases() -> Vec<Case> {
     }
     let job = trailer::jobs()[2];
     for count in [127, 128, 129, 130, 500, 20_000] {
-        let bytes = table_bytes(5, &vec![job; count], 0x04);
-        cases.push(case(&format!("jobs_{count}"), &bytes, &trailer::start(0x01, 0)));
-        cases.push(case(&format!("jobs_{count}_cut"), &bytes[..bytes.len() - 11], &trailer::start(0x01, 0)));
-        let last = 2 + 27 * count;
-        cases.push(case(&format!("jobs_{count}_and_no_goal"), &bytes[..last], &trailer::start(0x01, 0)));
+        for (name, job) in [("jobs", job), ("pair_jobs", Job { command: PAIRED_JOB, absent: 0x02, ..job })] {
+            let bytes = table_bytes(5, &vec![job; count], 0x04);
+            let start = trailer::start(0x01, 0);
+            cases.push(case(&format!("{name}_{count}"), &bytes, &start));
+            cases.push(case(&format!("{name}_{count}_cut"), &bytes[..bytes.len() - 11], &start));
+            cases.push(case(&format!("{name}_{count}_and_no_goal"), &bytes[..bytes.len() - 10], &start));
+        }
     }
-    // The largest sound table, and one byte more.
-    let largest = table_bytes(64, &[Job { needs: 1, adds: 2, deletes: 1, seconds: MOST_SECONDS }; 128], 2);
-    assert_eq!(largest.len(), 3_468);
-    cases.push(case("largest_table", &largest, &trailer::start(1, 0)));
+    // The largest sound tables, and more bytes.
+    for (name, job, bytes) in [
+        ("largest_table", Job::plain(1, 2, 1, MOST_SECONDS), 3_468),
+        ("largest_pair_table", Job::paired(1, 4, 2, 1, MOST_SECONDS), 4_492),
+    ] {
+        let largest = table_bytes(64, &[job; 128], 2);
+        assert_eq!(largest.len(), bytes);
+        cases.push(case(name, &largest, &trailer::start(1, 0)));
+        for extra in [1, 2, 24, 25, 26, 1_023, 1_024, 1_025, 1_049, 70_000] {
+            let longer = [&largest[..], &vec![END_OF_TABLE; extra]].concat();
+            cases.push(case(&format!("{name}_and_{extra}"), &longer, &trailer::start(1, 0)));
+        }
+        for less in [1, 2, 10, 11, 37] {
+            cases.push(case(&format!("{name}_cut_by_{less}"), &largest[..bytes - less], &trailer::start(1, 0)));
+        }
+        // A 129th job of either width after them, cut where it ends and around.
+        for (kind, last) in [("plain", Job::plain(1, 2, 1, 60)), ("paired", Job::paired(1, 4, 2, 1, 60))] {
+            let more = table_bytes(64, &[vec![job; 128], vec![last]].concat(), 2);
+            for less in [0, 1, 9, 10, 11, 12, 36] {
+                let cut = &more[..more.len() - less];
+                cases.push(case(&format!("{name}_and_a_{kind}_job_cut_by_{less}"), cut, &trailer::start(1, 0)));
+            }
+        }
+    }
     for (name, seconds) in [("longest_job", 5_400), ("longer_job", 5_401)] {
         let mut jobs = trailer::jobs();
         jobs[3].seconds = seconds;
         cases.push(case(name, &table_bytes(5, &jobs, 0x10), &trailer::start(0x02, 0)));
     }
-    cases.push(case("largest_table_and_a_byte", &[&largest[..], &[0]].concat(), &trailer::start(1, 0)));
-    for pairs in [11, 12, 13] {
-        let (bytes, start) = long_table(pairs);
-        cases.push(case(&format!("list_of_2_to_{pairs}"), &bytes, &trailer::start(start, 0)));
-        cases.push(case(&format!("no_way_in_2_to_{pairs}"), &bytes, &trailer::start(0, 0)));
+    for goals in [11, 12, 13] {
+        let table = make::long_table(goals, 0, Plain);
+        let start = make::long_start(&table);
+        cases.push(case(&format!("list_of_2_to_{goals}"), &table.bytes(), &trailer::start(start, 0)));
+        cases.push(case(&format!("no_way_in_2_to_{goals}"), &table.bytes(), &trailer::start(0, 0)));
     }
     // Job numbers of three digits and masks of sixteen.
-    let mut jobs = vec![Job { needs: 0, adds: 1, deletes: 0, seconds: 1 }; 128];
-    jobs[127] = Job { needs: u64::MAX << 2, adds: 2, deletes: 1 << 63, seconds: 30 };
+    let mut jobs = vec![Job::plain(0, 1, 0, 1); 128];
+    jobs[127] = Job::plain(u64::MAX << 2, 2, 1 << 63, 30);
     cases.push(case("digits", &table_bytes(64, &jobs, 2), &trailer::start(u64::MAX << 2, 0)));
+    jobs[127] = Job::paired(u64::MAX << 4, 0x0c, 2, 1 << 63, 30);
+    cases.push(case("digits_of_pairs", &table_bytes(64, &jobs, 2), &trailer::start(u64::MAX << 4, 0)));
     cases.push(case("empty_goal", &table_bytes(1, &[], 0), &trailer::start(0, 0)));
+    cases.extend(pair_cases());
+    cases
+}
+
+/// Tables with a 0x21: the trailer's, cut and from other starts; one that needs nothing absent; a job that contradicts itself; the longest lists.
+fn pair_cases() -> Vec<Case> {
+    let table = one_fact_less::table();
+    let start = trailer::start(0x01, 0);
+    let mut cases = vec![
+        case("pair_trailer", &table, &start),
+        case("pair_trailer_off", &table, &trailer::start(0x00, 0)),
+        case("pair_trailer_at_goal", &table, &trailer::start(0x08, 0)),
+        case("pair_trailer_unread", &table, &trailer::start(0x01, 0x02)),
+        case("pair_trailer_high_bit", &table, &trailer::start(0x10, 0)),
+        case("pair_trailer_longer", &[&table[..], &[END_OF_TABLE]].concat(), &start),
+        case("pair_trailer_and_bad_start", &table, &[0; 17]),
+    ];
+    for length in (0..table.len()).filter(|length| length % 7 == 0 || (30..42).contains(length)) {
+        cases.push(case(&format!("pair_trailer_cut_{length}"), &table[..length], &start));
+    }
+    let mut jobs = trailer::jobs();
+    jobs[4].command = PAIRED_JOB;
+    cases.push(case("no_fact_absent", &table_bytes(5, &jobs, 0x10), &trailer::start(0x02, 0)));
+    jobs[4].absent = 0x04;
+    cases.push(case("contradiction", &table_bytes(5, &jobs, 0x10), &trailer::start(0x02, 0)));
+    // No way: both jobs need fact 1 absent, and none takes it away.
+    let jobs = [Job::paired(0, 2, 1, 0, 60), Job::paired(1, 2, 4, 0, 60)];
+    cases.push(case("pair_no_way", &table_bytes(3, &jobs, 4), &trailer::start(2, 0)));
+    // So many entries, and one more than a list of pairs holds.
+    for last in [2_975, 2_976, 2_977, 4_095] {
+        let table = make::pair_counter_table(12, last, 61);
+        cases.push(case(&format!("pair_counter_to_{last}"), &table.bytes(), &trailer::start(0, 0)));
+    }
+    let table = make::long_table(12, 0, Paired);
+    cases.push(case("pair_list_of_2_to_12", &table.bytes(), &trailer::start(make::long_start(&table), 0)));
     cases
 }
 
 fn random_case(random: &mut Random, index: usize) -> Case {
-    let table = random_table(random);
-    let mut bytes = bytes_of(&table);
+    let facts = *random.pick(&[1, 3, 4, 5, 6, 8, 12, 63, 64]);
+    let kind = *random.pick(&[Plain, Paired]);
+    let table = make::table(random, facts, 11, kind);
+    let mut bytes = table.bytes();
     let mut held = random.state(table.facts);
     let mut unread = 0;
     let name = match index % 4 {
@@ -130,9 +170,9 @@ fn random_case(random: &mut Random, index: usize) -> Case {
                 4 => bytes.push(random.byte()),
                 5 => bytes[1] = random.byte(),
                 _ => {
-                    // An overlap in the first job, where there is one.
+                    // In the first job, where there is one, a mask gets another's low facts: needs, absent or adds, deletes.
                     if !table.jobs.is_empty() {
-                        let (from, to) = *random.pick(&[(11, 3), (11, 19)]);
+                        let (from, to) = *random.pick(&[(11, 3), (11, 19), (3, 11), (19, 3)]);
                         bytes[to] |= bytes[from];
                     }
                 }
@@ -174,7 +214,7 @@ fn main() {
     };
     let mut random = Random::new(seed);
     let mut cases = fixed_cases();
-    while cases.len() < 700 {
+    while cases.len() < FOLDERS {
         cases.push(random_case(&mut random, cases.len()));
     }
 
@@ -205,9 +245,9 @@ fn main() {
         }
     }
 
-    // Every answer is among the cases but 12: a list of 4,096 entries needs 57,343 bytes, and 65,535 are lent.
-    assert!(14 * MOST_ENTRIES - 1 <= MOST_TREE_BYTES);
-    for number in (1..=11).chain([19]) {
+    // Every answer is among the cases but 12: the longest lists need 57,343 and 65,515 bytes, and 65,535 are lent.
+    assert!(14 * MOST_ENTRIES <= MOST_TREE_BYTES && 22 * MOST_PAIR_ENTRIES <= MOST_TREE_BYTES);
+    for number in (1..=11).chain([19, 22]) {
         if !numbers.contains_key(&format!("refused {number}")) {
             println!("FAILED no case is refused as {number}");
             failed += 1;
@@ -216,7 +256,7 @@ fn main() {
     for (kind, count) in &numbers {
         println!("{kind}: {count}");
     }
-    println!("12 does not arise: 4,096 entries need 57,343 bytes of tree, and 65,535 are lent");
+    println!("12 does not arise: 4,096 entries need 57,343 bytes of tree, 2,978 pairs 65,515, and 65,535 are lent");
     println!("{passed} passed, {failed} failed");
     std::process::exit(if failed == 0 { 0 } else { 1 });
 }

@@ -2,6 +2,9 @@
 //! show that lists, trees, texts and answers stay as they are, byte for byte, through a change that is to alter none of them.
 //!
 //!     digests STORED PATH_OF_BAYPLAN SCRATCH_FOLDER
+//!
+//! No table of the corpus has a 0x21. Words that an answer got with document 02's W10 stand at its end; they are left out, and so are second
+//! masks, of which none are lent.
 
 #[path = "../digests/corpus.rs"]
 mod corpus;
@@ -84,9 +87,9 @@ impl Library {
     }
 
     fn tables(&mut self, random: &mut Random, case: &Case) {
-        self.answer("read_table", &ffi::read_table(&case.table));
+        self.answer("read_table", &ffi::read_table(&case.table)[..4]);
         for job in [0, case.jobs, random.below(129), 256, usize::MAX] {
-            self.answer("read_job", &ffi::read_job(&case.table, job));
+            self.answer("read_job", &ffi::read_job(&case.table, job)[..5]);
         }
     }
 
@@ -96,14 +99,14 @@ impl Library {
         for lengths in [corpus::any_lengths(random, case), corpus::ample_lengths(random, case)] {
             let mut lent = corpus::lent(random, lengths);
             let answer = ffi::plan(&case.table, case.held, case.unread, &mut lent);
-            self.answer("plan", &answer);
+            self.answer("plan", &answer[..5]);
             self.lent(&lent);
             if answer[0] == 0 {
                 tree = Some(lent.tree[..answer[2] as usize].to_vec());
             }
             let mut lent = corpus::lent(random, lengths);
             let answer = ffi::plan_shift(&case.table, &mut lent);
-            self.answer("plan_shift", &answer);
+            self.answer("plan_shift", &answer[..3]);
             self.lent(&lent);
             if answer[0] == 0 && tree.is_none() {
                 tree = Some(lent.tree[..answer[2] as usize].to_vec());

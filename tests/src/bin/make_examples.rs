@@ -6,7 +6,7 @@ use std::fs;
 use std::path::Path;
 
 use bay_tests::engine::{bayplan, table_bytes, Job};
-use bay_tests::trailer;
+use bay_tests::trailer::{self, one_fact_less};
 
 /// A truck with two axles, driven at the rear.
 mod truck {
@@ -26,19 +26,18 @@ mod truck {
 
 fn truck_jobs() -> Vec<Job> {
     use truck::*;
-    let job = |needs, adds, deletes, seconds| Job { needs, adds, deletes, seconds };
     vec![
-        job(ON_THE_FLOOR, TYRES_CHECKED, 0, 300),
-        job(ON_THE_FLOOR, FRONT_ON_ROLLERS, ON_THE_FLOOR, 240),
-        job(ON_THE_FLOOR, REAR_ON_ROLLERS, ON_THE_FLOOR, 240),
-        job(FRONT_ON_ROLLERS, ON_THE_FLOOR, FRONT_ON_ROLLERS, 120),
-        job(REAR_ON_ROLLERS, ON_THE_FLOOR, REAR_ON_ROLLERS, 120),
-        job(FRONT_ON_ROLLERS | TYRES_CHECKED, FRONT_MEASURED, 0, 420),
-        job(REAR_ON_ROLLERS | TYRES_CHECKED, REAR_MEASURED, 0, 420),
-        job(REAR_ON_ROLLERS | REAR_MEASURED, PULSES_MEASURED, 0, 480),
-        job(OLD_SEAL_ON, SEAL_OFF, OLD_SEAL_ON, 90),
-        job(FRONT_MEASURED | PULSES_MEASURED | SEAL_OFF, CONSTANT_SET, 0, 360),
-        job(CONSTANT_SET | SEAL_OFF | ON_THE_FLOOR, SEALED, SEAL_OFF, 150),
+        Job::plain(ON_THE_FLOOR, TYRES_CHECKED, 0, 300),
+        Job::plain(ON_THE_FLOOR, FRONT_ON_ROLLERS, ON_THE_FLOOR, 240),
+        Job::plain(ON_THE_FLOOR, REAR_ON_ROLLERS, ON_THE_FLOOR, 240),
+        Job::plain(FRONT_ON_ROLLERS, ON_THE_FLOOR, FRONT_ON_ROLLERS, 120),
+        Job::plain(REAR_ON_ROLLERS, ON_THE_FLOOR, REAR_ON_ROLLERS, 120),
+        Job::plain(FRONT_ON_ROLLERS | TYRES_CHECKED, FRONT_MEASURED, 0, 420),
+        Job::plain(REAR_ON_ROLLERS | TYRES_CHECKED, REAR_MEASURED, 0, 420),
+        Job::plain(REAR_ON_ROLLERS | REAR_MEASURED, PULSES_MEASURED, 0, 480),
+        Job::plain(OLD_SEAL_ON, SEAL_OFF, OLD_SEAL_ON, 90),
+        Job::plain(FRONT_MEASURED | PULSES_MEASURED | SEAL_OFF, CONSTANT_SET, 0, 360),
+        Job::plain(CONSTANT_SET | SEAL_OFF | ON_THE_FLOOR, SEALED, SEAL_OFF, 150),
     ]
 }
 
@@ -59,6 +58,8 @@ fn main() {
     let root = Path::new(&root);
     let trailer_table = trailer::table();
     write(root, "trailer", &trailer_table, &trailer::start(0x02, 0));
+
+    write(root, "trailer_one_fact_less", &one_fact_less::table(), &trailer::start(0x01, 0));
 
     let truck_table = table_bytes(truck::FACTS, &truck_jobs(), truck::SEALED);
     let arrives = truck::ON_THE_FLOOR | truck::OLD_SEAL_ON;

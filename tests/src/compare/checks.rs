@@ -2,8 +2,12 @@
 //!
 //! The library gets copies of the inputs, which must come back unchanged. A difference panics with the case.
 
-use bay_tests::engine::{self, Card, Columns, Job, Lent, Planned, Refusal, Status, Table, Ticked, Unwritten};
+use bay_tests::engine::{
+    self, Card, Columns, Condition, Job, Lengths, Lent, Planned, Refusal, ShiftPlanned, Status, Table, Ticked,
+    Unwritten,
+};
 
+use super::lent;
 use crate::ffi;
 
 use std::cell::RefCell;
@@ -20,16 +24,16 @@ fn reached(function: &'static str, number: u64) {
 
 /// The numbers that each function can give.
 const NUMBERS: [(&str, &[u64]); 10] = [
-    ("read_table", &[0, 1, 2, 3, 4, 5, 6, 7, 19]),
-    ("read_job", &[0, 1, 2, 3, 4, 5, 6, 7, 16, 19]),
-    ("write_table", &[0, 3, 4, 5, 6, 19, ffi::TOO_SHORT, ffi::UNEVEN]),
+    ("read_table", &[0, 1, 2, 3, 4, 5, 6, 7, 19, 22]),
+    ("read_job", &[0, 1, 2, 3, 4, 5, 6, 7, 16, 19, 22]),
+    ("write_table", &[0, 3, 4, 5, 6, 19, 22, ffi::TOO_SHORT, ffi::UNEVEN, ffi::UNWRITABLE]),
     ("newest_weaker", &[0]),
-    ("plan", &[0, 1, 2, 3, 4, 5, 6, 7, 8, 9, 10, 11, 12, 19]),
-    ("plan_shift", &[0, 1, 2, 3, 4, 5, 6, 7, 10, 12, 19]),
-    ("tick", &[0, 1, 2, 3, 4, 5, 6, 7, 8, 13, 14, 15, 19]),
-    ("open", &[0, 1, 2, 3, 4, 5, 6, 7, 8, 19]),
-    ("read_outside", &[0, 1, 2, 3, 4, 5, 6, 7, 8, 19]),
-    ("report", &[0, 1, 2, 3, 4, 5, 6, 7, 8, 16, 17, 18, 19, ffi::SECONDS_OUT_OF_RANGE]),
+    ("plan", &[0, 1, 2, 3, 4, 5, 6, 7, 8, 9, 10, 11, 12, 19, 22]),
+    ("plan_shift", &[0, 1, 2, 3, 4, 5, 6, 7, 10, 12, 19, 22]),
+    ("tick", &[0, 1, 2, 3, 4, 5, 6, 7, 8, 13, 14, 15, 19, 22]),
+    ("open", &[0, 1, 2, 3, 4, 5, 6, 7, 8, 19, 22]),
+    ("read_outside", &[0, 1, 2, 3, 4, 5, 6, 7, 8, 19, 22]),
+    ("report", &[0, 1, 2, 3, 4, 5, 6, 7, 8, 16, 17, 18, 19, 22, ffi::SECONDS_OUT_OF_RANGE]),
 ];
 
 /// The last group: every function gave every number that it can, and no other.
@@ -80,6 +84,7 @@ fn first_difference<T: PartialEq + std::fmt::Debug>(name: &str, library: &[T], e
 fn same_lent(library: &Lent, engine: &Lent, case: impl Fn() -> String) {
     let differences = [
         first_difference("conditions", &library.conditions, &engine.conditions),
+        first_difference("absences", &library.absences, &engine.absences),
         first_difference("jobs", &library.jobs, &engine.jobs),
         first_difference("parents", &library.parents, &engine.parents),
         first_difference("depths", &library.depths, &engine.depths),
@@ -93,7 +98,7 @@ fn same_lent(library: &Lent, engine: &Lent, case: impl Fn() -> String) {
 pub fn read_table(bytes: &[u8]) -> Result<Table, Refusal> {
     let result = engine::read_table(bytes);
     let expected = match &result {
-        Ok(table) => [0, u64::from(table.facts), table.jobs.len() as u64, table.goal],
+        Ok(table) => [0, u64::from(table.facts), table.jobs.len() as u64, table.goal, u64::from(table.is_paired())],
         Err(refusal) => refused(refusal),
     };
     let copy = bytes.to_vec();
@@ -107,7 +112,7 @@ pub fn read_table(bytes: &[u8]) -> Result<Table, Refusal> {
 pub fn read_job(bytes: &[u8], number: usize) -> Result<Job, Refusal> {
     let result = engine::read_job(bytes, number);
     let expected = match &result {
-        Ok(job) => [0, job.needs, job.adds, job.deletes, u64::from(job.seconds)],
+        Ok(job) => [0, job.needs, job.adds, job.deletes, u64::from(job.seconds), job.absent, u64::from(job.command)],
         Err(refusal) => refused(refusal),
     };
     let copy = bytes.to_vec();
@@ -125,7 +130,7 @@ pub fn write_table(
     out_len: usize,
     pattern: u64,
 ) -> (Result<usize, Unwritten>, Vec<u8>) {
-    let mut out = Lent::filled([0, 0, 0, 0, out_len], pattern).tree;
+    let mut out = Lent::filled([0, 0, 0, 0, 0, out_len], pattern).tree;
     let mut library_out = out.clone();
     let result = engine::write_table(facts, columns, goal, &mut out);
     let expected = match &result {
@@ -133,6 +138,7 @@ pub fn write_table(
         Err(Unwritten::Refused(refusal)) => refused(refusal),
         Err(Unwritten::TooShort(wanted)) => [ffi::TOO_SHORT, *wanted as u64],
         Err(Unwritten::Uneven) => [ffi::UNEVEN, 0],
+        Err(Unwritten::Unwritable(row)) => [ffi::UNWRITABLE, *row as u64],
     };
     let case = || format!("write_table facts {facts} {columns:x?} goal {goal:x} out {out_len}");
     reached("write_table", expected[0]);
@@ -143,17 +149,18 @@ pub fn write_table(
     (result, out)
 }
 
-/// One plan into slices of these lengths: conditions, jobs, parents, depths, tree.
+/// One plan into slices of these lengths; under a table without 0x21 the second masks are of another.
 fn into_lent<T, const N: usize>(
     function: &'static str,
     table: &[u8],
-    lengths: [usize; 5],
+    lengths: Lengths,
     pattern: u64,
     operands: impl Fn() -> String,
     by_engine: impl Fn(&[u8], &mut Lent) -> Result<T, Refusal>,
     words: impl Fn(&T) -> [u64; N],
     by_library: impl Fn(&[u8], &mut Lent) -> [u64; N],
 ) -> (Result<T, Refusal>, Lent) {
+    let lengths = lent::with_second_masks(table, lengths, pattern);
     let mut lent = Lent::filled(lengths, pattern);
     let mut library_lent = lent.clone();
     let result = by_engine(table, &mut lent);
@@ -170,13 +177,7 @@ fn into_lent<T, const N: usize>(
     (result, lent)
 }
 
-pub fn plan(
-    table: &[u8],
-    held: u64,
-    unread: u64,
-    lengths: [usize; 5],
-    pattern: u64,
-) -> (Result<Planned, Refusal>, Lent) {
+pub fn plan(table: &[u8], held: u64, unread: u64, lengths: Lengths, pattern: u64) -> (Result<Planned, Refusal>, Lent) {
     into_lent(
         "plan",
         table,
@@ -184,13 +185,15 @@ pub fn plan(
         pattern,
         || format!("held {held:x} unread {unread:x}"),
         |table, lent| engine::plan(table, held, unread, lent),
-        |p| [0, p.entries as u64, p.tree_bytes as u64, p.way_jobs as u64, p.way_minutes as u64],
+        |p| {
+            let sizes = [p.entries, p.tree_bytes, p.way_jobs].map(|size| size as u64);
+            [0, sizes[0], sizes[1], sizes[2], p.way_minutes as u64, u64::from(p.paired)]
+        },
         |table, lent| ffi::plan(table, held, unread, lent),
     )
 }
 
-/// The plan for the whole shift tells its entries and the bytes of its tree.
-pub fn plan_shift(table: &[u8], lengths: [usize; 5], pattern: u64) -> (Result<(usize, usize), Refusal>, Lent) {
+pub fn plan_shift(table: &[u8], lengths: Lengths, pattern: u64) -> (Result<ShiftPlanned, Refusal>, Lent) {
     into_lent(
         "plan_shift",
         table,
@@ -198,7 +201,7 @@ pub fn plan_shift(table: &[u8], lengths: [usize; 5], pattern: u64) -> (Result<(u
         pattern,
         String::new,
         engine::plan_shift,
-        |(entries, tree_bytes)| [0, *entries as u64, *tree_bytes as u64],
+        |planned| [0, planned.entries as u64, planned.tree_bytes as u64, u64::from(planned.paired)],
         ffi::plan_shift,
     )
 }
@@ -226,18 +229,20 @@ pub fn tick(table: &[u8], tree: &[u8], held: u64, unread: u64) -> Result<Ticked,
     result
 }
 
-pub fn newest_weaker(listed: &[u64], condition: u64) -> Option<usize> {
-    let found = engine::newest_part(listed, condition);
+pub fn newest_weaker(listed: &[u64], absences: &[u64], condition: Condition) -> Option<usize> {
+    let found = engine::newest_part(listed, absences, condition);
     let expected = match found {
         Some(entry) => [0, 1, entry as u64],
         None => [0, 0, 0],
     };
-    let copy = listed.to_vec();
-    let case =
-        || format!("newest_weaker of {condition:x} in {} entries {:x?}", listed.len(), &listed[..listed.len().min(60)]);
+    let (listed_copy, absences_copy) = (listed.to_vec(), absences.to_vec());
+    let case = || {
+        let shown = |row: &[u64]| format!("{} masks {:x?}", row.len(), &row[..row.len().min(60)]);
+        format!("newest_weaker of {condition:x?} in {} with {}", shown(listed), shown(absences))
+    };
     reached("newest_weaker", expected[0]);
-    same(ffi::newest_weaker(&copy, condition), expected, case);
-    same(copy.as_slice(), listed, case);
+    same(ffi::newest_weaker(&listed_copy, &absences_copy, condition), expected, case);
+    same((listed_copy.as_slice(), absences_copy.as_slice()), (listed, absences), case);
     found
 }
 

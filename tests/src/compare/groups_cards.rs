@@ -1,21 +1,23 @@
 //! The job card.
 
 use bay_tests::engine::*;
+use bay_tests::make::{self, Jobs};
 use bay_tests::random::Random;
 
 use super::checks;
-use super::make;
-use super::Group;
+use super::lent::lists;
+use super::{both, one, Group};
 
-pub fn groups() -> Vec<Group> {
+pub fn groups() -> Vec<Vec<Group>> {
     vec![
-        Group { name: "cards_sound_and_unsound", cases: 60_000, run: any_card },
-        Group { name: "cards_refused", cases: 30_000, run: refused },
-        Group { name: "cards_through_a_plan", cases: 6_000, run: through_a_plan },
-        Group { name: "cards_of_older_tables", cases: 4_000, run: of_an_older_table },
-        Group { name: "card_of_65535_reports", cases: 1, run: most_reports },
-        Group { name: "reports_of_no_job", cases: 64, run: no_job },
-        Group { name: "lateness", cases: 2_000, run: lateness },
+        both("cards_sound_and_unsound", 60_000, any_card),
+        both("cards_refused", 30_000, refused),
+        one("cards_of_absent_facts", 81, absent_facts),
+        both("cards_through_a_plan", 6_000, through_a_plan),
+        one("cards_of_older_tables", 4_000, of_an_older_table),
+        one("card_of_65535_reports", 1, most_reports),
+        one("reports_of_no_job", 64, no_job),
+        one("lateness", 2_000, lateness),
     ]
 }
 
@@ -47,19 +49,20 @@ fn any_number(random: &mut Random) -> usize {
     *random.pick(&[byte, byte, 255, 256 + low, 300, 65_536 + low, (1 << 32) + low, 1 << 63, usize::MAX])
 }
 
-fn any_card(random: &mut Random, _: u64) {
-    let table = make::table(random, 64, 6);
-    let bytes = make::bytes_of(&table);
+fn any_card(random: &mut Random, _: u64, kind: Jobs) {
+    let table = make::table(random, 64, 6, kind);
+    let bytes = table.bytes();
     let mut card = card(random, table.facts);
     for _ in 0..4 {
         let number = random.below(table.jobs.len() + 1);
         let number = if random.one_in(12) { any_number(random) } else { number };
         let seconds = if random.one_in(12) { any_number(random) } else { *random.pick(&[0, 1, 600, 65_535]) };
         if random.one_in(3) {
-            // Hold its needs, so that reports are often taken.
+            // Make it applicable, so that reports are often taken; or all but what is to be absent.
             if let Some(job) = table.jobs.get(number) {
-                card.held |= job.needs;
-                card.unread &= !job.needs;
+                let absent = if random.one_in(4) { 0 } else { job.absent };
+                card.held = (card.held | job.needs) & !absent;
+                card.unread &= !(job.needs | absent);
             }
         }
         let _ = checks::report(&bytes, number, seconds, &mut card);
@@ -77,8 +80,8 @@ fn any_card(random: &mut Random, _: u64) {
     }
 }
 
-fn refused(random: &mut Random, _: u64) {
-    let table = make::table(random, 64, 4);
+fn refused(random: &mut Random, _: u64, kind: Jobs) {
+    let table = make::table(random, 64, 4, kind);
     let bytes = make::damaged_bytes(random, &table);
     let mut card = card(random, table.facts);
     let (held, unread) = make::any_reading(random, table.facts);
@@ -89,13 +92,37 @@ fn refused(random: &mut Random, _: u64) {
     }
 }
 
+/// A job that needs two facts held and two absent, with each of the four held, absent and unread in turn: 17 but where all are as they should be,
+/// and after 17 alone 18.
+fn absent_facts(_: &mut Random, index: u64) {
+    let job = Job::paired(0x03, 0x0c, 0x14, 0x20, 60);
+    let bytes = table_bytes(6, &[job], 0);
+    let (mut held, mut unread) = (0x20, 0);
+    for fact in 0..4 {
+        match index / 3u64.pow(fact) % 3 {
+            0 => {}
+            1 => held |= 1 << fact,
+            _ => unread |= 1 << fact,
+        }
+    }
+    let applicable = held & 0x0f == 0x03 && unread == 0;
+    let mut card = Card { held, unread, ..Card::default() };
+    let full = Card { reports: 65_535, ..card };
+    match checks::report(&bytes, 0, 60, &mut card) {
+        Ok(()) => assert_eq!((applicable, card.held, card.unread), (true, 0x17, 0)),
+        Err(refusal) => assert_eq!((applicable, refusal.number, card.held), (false, 17, held)),
+    }
+    let refusal = checks::report(&bytes, 0, 60, &mut { full }).expect_err("a full card");
+    assert_eq!(refusal.number, if applicable { 18 } else { 17 });
+}
+
 /// A vehicle from its opening to the goal: tick by card, report, and read what a tick asks for.
-fn through_a_plan(random: &mut Random, _: u64) {
+fn through_a_plan(random: &mut Random, _: u64, kind: Jobs) {
     let facts = random.between(3, 7) as u32;
-    let table = make::busy_table(random, facts);
-    let bytes = make::bytes_of(&table);
+    let table = make::busy_table(random, facts, kind);
+    let bytes = table.bytes();
     let mut state = random.state(table.facts);
-    let (result, lent) = checks::plan(&bytes, state, 0, [200, 200, 200, 200, 2_800], state);
+    let (result, lent) = checks::plan(&bytes, state, 0, lists(200, 22 * 200), state);
     let Ok(planned) = result else { return };
     let tree = &lent.tree[..planned.tree_bytes];
     let unread = random.state(table.facts);
@@ -129,8 +156,7 @@ fn through_a_plan(random: &mut Random, _: u64) {
 
 /// A card takes 65,535 reports, each of the most seconds, and then 18.
 fn most_reports(_: &mut Random, _: u64) {
-    let jobs = [Job { needs: 1, adds: 2, deletes: 0, seconds: MOST_SECONDS }];
-    let bytes = table_bytes(2, &jobs, 2);
+    let bytes = table_bytes(2, &[Job::plain(1, 2, 0, MOST_SECONDS)], 2);
     let mut card = Card::default();
     checks::open(&bytes, 1, 2, &mut card).expect("a sound reading");
     for _ in 0..65_535 {
@@ -143,7 +169,7 @@ fn most_reports(_: &mut Random, _: u64) {
 
 /// A number with any one bit above those of a byte names no job, whatever its lower bits name: 16, and the card stays.
 fn no_job(_: &mut Random, index: u64) {
-    let bytes = table_bytes(2, &[Job { needs: 1, adds: 2, deletes: 0, seconds: 60 }; 3], 2);
+    let bytes = table_bytes(2, &[Job::plain(1, 2, 0, 60); 3], 2);
     let opened = Card { held: 1, unread: 0, reports: 0, taken: 0, planned: 0 };
     for low in 0..3 {
         let mut card = opened;
@@ -166,7 +192,7 @@ fn of_an_older_table(random: &mut Random, _: u64) {
     let listed: u32 = (0..reports).map(|_| random.below(12_000) as u32).sum();
     let planned = *random.pick(&[limit, limit + 1, 65_535 * u32::from(reports), listed]);
     let taken = 65_535 * u32::from(reports);
-    let bytes = table_bytes(3, &[Job { needs: 1, adds: 2, deletes: 0, seconds: MOST_SECONDS }], 2);
+    let bytes = table_bytes(3, &[Job::plain(1, 2, 0, MOST_SECONDS)], 2);
     let old = Card { held: 1, unread: 4, reports, taken, planned };
     let mut card = old;
     let is_over = planned > limit;

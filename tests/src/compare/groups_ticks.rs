@@ -1,58 +1,96 @@
 //! The tree reader and the tick.
 
+use bay_tests::brute::{check_unsettled, settled_in_every_filling};
 use bay_tests::engine::*;
+use bay_tests::make::Jobs::{self, Paired, Plain};
 use bay_tests::random::Random;
-use bay_tests::trailer;
+use bay_tests::{make, trailer};
 
 use super::checks;
-use super::make;
-use super::Group;
+use super::lent::lists;
+use super::{both, one, Group};
 use crate::ffi;
 
-pub fn groups() -> Vec<Group> {
+pub fn groups() -> Vec<Vec<Group>> {
     vec![
-        Group { name: "ticks_of_built_trees", cases: 500, run: built },
-        Group { name: "ticks_of_any_shape", cases: 60_000, run: any_shape },
-        Group { name: "ticks_every_byte_changed", cases: 111, run: every_byte_changed },
-        Group { name: "ticks_every_cut", cases: 400, run: every_cut },
-        Group { name: "ticks_damaged", cases: 100_000, run: damaged },
-        Group { name: "ticks_of_any_bytes", cases: 60_000, run: any_bytes },
-        Group { name: "ticks_deep", cases: 6_000, run: deep },
-        Group { name: "ticks_wide", cases: 16, run: wide },
-        Group { name: "ticks_longest", cases: 8, run: longest },
-        Group { name: "ticks_refused", cases: 40_000, run: refused },
-        Group { name: "filling_in_any_tree", cases: 12_000, run: filling_in_any_tree },
-        Group { name: "filling_in_built_trees", cases: 12_000, run: filling_in_built_trees },
-        Group { name: "ticks_on_a_small_stack", cases: 1, run: small_stack },
+        both("ticks_of_built_trees", 500, built),
+        both("ticks_of_any_shape", 50_000, any_shape),
+        one("ticks_of_one_pair", 1, one_pair),
+        both("ticks_every_byte_changed", 153, every_byte_changed),
+        both("ticks_every_cut", 400, every_cut),
+        both("ticks_damaged", 80_000, damaged),
+        both("ticks_of_any_bytes", 40_000, any_bytes),
+        both("ticks_deep", 5_000, deep),
+        one("ticks_wide", 32, wide),
+        one("ticks_longest", 12, longest),
+        both("ticks_refused", 40_000, refused),
+        both("filling_in_any_tree", 10_000, filling_in_any_tree),
+        both("filling_in_built_trees", 12_000, filling_in_built_trees),
+        both("filling_in_every_reading", 300, filling_in_every_reading),
+        one("ticks_on_a_small_stack", 1, small_stack),
     ]
 }
 
 /// The tree that a table's plan writes from some start, or its whole list's tree where there is no way.
 fn built_tree(table: &Table, start: u64) -> Vec<u8> {
-    tree_bytes(&expand(table, Some(start), 200).0)
+    tree_bytes(table, &expand(table, Some(start), 200).0)
 }
 
 /// Every sound reading of a built tree.
-fn built(random: &mut Random, index: u64) {
+fn built(random: &mut Random, index: u64, kind: Jobs) {
     let facts = random.between(3, 5) as u32;
     let table = match index {
-        0 => read_table(&trailer::table()).expect("sound"),
-        _ => make::busy_table(random, facts),
+        0 => make::small_table(random, 0, kind),
+        _ => make::busy_table(random, facts, kind),
     };
-    let bytes = make::bytes_of(&table);
+    let bytes = table.bytes();
     let tree = built_tree(&table, random.state(table.facts));
-    for unread in 0..1u64 << table.facts {
-        for held in 0..1u64 << table.facts {
+    every_reading(table.facts, |held, unread| {
+        let _ = checks::tick(&bytes, &tree, held, unread);
+    });
+}
+
+fn every_reading(facts: u32, call: impl Fn(u64, u64)) {
+    for unread in 0..1u64 << facts {
+        for held in 0..1u64 << facts {
             if held & unread == 0 {
-                let _ = checks::tick(&bytes, &tree, held, unread);
+                call(held, unread);
             }
         }
     }
 }
 
-fn any_shape(random: &mut Random, _: u64) {
-    let table = make::table(random, 64, 4);
-    let bytes = make::bytes_of(&table);
+/// Every pair over three facts, also those that want a fact both ways, on every reading of them, alone, in a fallback and in a sequence.
+fn one_pair(_: &mut Random, _: u64) {
+    let bytes = table_bytes(3, &[Job::plain(0, 1, 0, 1)], 0);
+    for present in 0..8 {
+        for absent in 0..8 {
+            let pair = make::pair_condition(present, absent);
+            let under = |command| [make::inner(command, 2), pair.clone(), vec![JOB_LEAF, 0, END_OF_TREE]].concat();
+            let trees = [[&pair[..], &[END_OF_TREE]].concat(), under(FALLBACK), under(SEQUENCE)];
+            every_reading(3, |held, unread| {
+                let read = !unread & 7;
+                let status = if present & !held & read != 0 || absent & held != 0 {
+                    Status::Failure
+                } else if (present | absent) & unread != 0 {
+                    Status::Unsettled((present | absent) & unread)
+                } else {
+                    Status::Success
+                };
+                for tree in &trees {
+                    let ticked = checks::tick(&bytes, tree, held, unread).expect("a sound tree");
+                    let passed = tree[0] == FALLBACK && status == Status::Failure
+                        || tree[0] == SEQUENCE && status == Status::Success;
+                    assert_eq!(ticked.status, if passed { Status::Running(0) } else { status });
+                }
+            });
+        }
+    }
+}
+
+fn any_shape(random: &mut Random, _: u64, kind: Jobs) {
+    let table = make::table(random, 64, 4, kind);
+    let bytes = table.bytes();
     let tree = make::tree(random, &table);
     for _ in 0..3 {
         let (held, unread) = make::reading(random, table.facts);
@@ -60,40 +98,48 @@ fn any_shape(random: &mut Random, _: u64) {
     }
 }
 
-fn every_byte_changed(random: &mut Random, index: u64) {
-    let table = trailer::table();
+/// Every value of one byte of the trailer's tree, of which the one with pairs has more.
+fn every_byte_changed(random: &mut Random, index: u64, kind: Jobs) {
+    let (table, start, bytes) = match kind {
+        Plain => (trailer::table(), 0x02, 111),
+        Paired => (trailer::one_fact_less::table(), 0x01, 153),
+    };
     let parsed = read_table(&table).expect("sound");
-    let mut tree = built_tree(&parsed, 0x02);
-    assert_eq!(tree.len(), 111);
+    let mut tree = built_tree(&parsed, start);
+    assert_eq!(tree.len(), bytes);
+    let at = index as usize;
+    if at >= bytes {
+        return;
+    }
     for value in 0..=255 {
-        tree[index as usize] = value;
+        tree[at] = value;
         for _ in 0..2 {
-            let (held, unread) = make::reading(random, 5);
+            let (held, unread) = make::reading(random, parsed.facts);
             let _ = checks::tick(&table, &tree, held, unread);
         }
     }
 }
 
 /// Every beginning of a tree, and every byte after its END.
-fn every_cut(random: &mut Random, _: u64) {
-    let table = make::table(random, 20, 4);
-    let bytes = make::bytes_of(&table);
+fn every_cut(random: &mut Random, _: u64, kind: Jobs) {
+    let table = make::table(random, 20, 4, kind);
+    let bytes = table.bytes();
     let tree = if random.one_in(3) { built_tree(&table, 0) } else { make::tree(random, &table) };
     let (held, unread) = make::reading(random, table.facts);
     for length in 0..tree.len().min(400) {
         let cut = checks::tick(&bytes, &tree[..length], held, unread);
         assert_eq!(cut.expect_err("a cut tree").number, 13);
     }
-    for extra in [END_OF_TREE, FALLBACK, CONDITION, 0, random.byte()] {
+    for extra in [END_OF_TREE, FALLBACK, CONDITION, PAIR, 0, random.byte()] {
         let longer = [&tree[..], &[extra]].concat();
         let refusal = checks::tick(&bytes, &longer, held, unread).expect_err("a tree that goes on");
         assert_eq!((refusal.number, refusal.place), (13, tree.len()));
     }
 }
 
-fn damaged(random: &mut Random, _: u64) {
-    let table = make::table(random, 64, 4);
-    let bytes = make::bytes_of(&table);
+fn damaged(random: &mut Random, _: u64, kind: Jobs) {
+    let table = make::table(random, 64, 4, kind);
+    let bytes = table.bytes();
     let mut tree =
         if random.one_in(3) { built_tree(&table, random.state(table.facts)) } else { make::tree(random, &table) };
     for _ in 0..random.between(1, 3) {
@@ -104,9 +150,9 @@ fn damaged(random: &mut Random, _: u64) {
 }
 
 /// Bytes drawn from those that a tree is made of.
-fn any_bytes(random: &mut Random, _: u64) {
-    let table = make::table(random, 64, 4);
-    let bytes = make::bytes_of(&table);
+fn any_bytes(random: &mut Random, _: u64, kind: Jobs) {
+    let table = make::table(random, 64, 4, kind);
+    let bytes = table.bytes();
     let mut tree = Vec::new();
     for _ in 0..random.below(12) {
         match random.below(8) {
@@ -124,11 +170,11 @@ fn any_bytes(random: &mut Random, _: u64) {
 }
 
 /// Chains around the depth of 16, with every kind of node at the bottom.
-fn deep(random: &mut Random, index: u64) {
-    let table = Table { facts: 63, jobs: (0..3).map(|_| make::job(random, 63)).collect(), goal: 0 };
-    let bytes = make::bytes_of(&table);
+fn deep(random: &mut Random, index: u64, kind: Jobs) {
+    let table = Table { facts: 63, jobs: make::jobs(random, 63, 3, kind), goal: 0 };
+    let bytes = table.bytes();
     let above = if index < 2_000 { 13 + index as usize % 5 } else { random.below(18) };
-    let bottom: Vec<u8> = match random.below(12) {
+    let bottom: Vec<u8> = match random.below(14) {
         0 => make::condition(1 << 63),
         1 => vec![JOB_LEAF, 3],
         2 => make::inner(SEQUENCE, 0),
@@ -137,6 +183,8 @@ fn deep(random: &mut Random, index: u64) {
         5 => vec![END_OF_TREE],
         6 => [make::inner(SEQUENCE, 1), make::condition(0)].concat(),
         7 => [make::inner(FALLBACK, 2), make::condition(1), vec![JOB_LEAF, 1]].concat(),
+        8 => make::pair_condition(1 << 63, 0),
+        9 => make::pair_condition(0, 1 << 63),
         _ => make::leaf(random, &table),
     };
     let mut tree = make::chain(random, &table, above, &bottom);
@@ -154,15 +202,17 @@ fn wide(random: &mut Random, index: u64) {
     let bytes = trailer::table();
     let count = 4_095 + (index % 3) as usize;
     let command = if index % 2 == 0 { FALLBACK } else { SEQUENCE };
-    // Held 1: fact 0 passes a sequence, fact 1 passes a fallback.
-    let passed = make::condition(if command == FALLBACK { 2 } else { 1 });
+    // Held 1: fact 0 passes a sequence, fact 1 passes a fallback, and to be absent the other way round.
+    let (mask, other) = if command == FALLBACK { (2, 1) } else { (1, 2) };
     let above = [0, 0, 13, 14, 15][index as usize % 5];
     let mut node = make::inner(command, count);
     for i in 0..count {
         if i + 1 == count && index % 4 == 3 {
             node.extend([JOB_LEAF, 4]);
+        } else if index >= 16 && i % 3 == 0 {
+            node.extend(make::pair_condition(0, other));
         } else {
-            node.extend(&passed);
+            node.extend(make::condition(mask));
         }
     }
     let tree = make::chain(random, &table, above, &node);
@@ -207,7 +257,13 @@ fn longest(_: &mut Random, index: u64) {
         4 => vec![0; MOST_TREE_BYTES],
         5 => vec![0; MOST_TREE_BYTES + 1],
         6 => [&[SEQUENCE, 1, 0][..]].concat().repeat(21_845),
-        _ => [sound, vec![0; 65_536]].concat(),
+        7 => [sound, vec![0; 65_536]].concat(),
+        // 3 + 3,854 x 17 + 7 x 2 + END are 65,536; with a job less 65,534.
+        _ => {
+            let jobs = index as usize - 3;
+            let pairs = make::pair_condition(1, 2).repeat(3_854);
+            [make::inner(SEQUENCE, 3_854 + jobs), pairs, [JOB_LEAF, 2].repeat(jobs), vec![END_OF_TREE]].concat()
+        }
     };
     for (held, unread) in [(1, 0), (3, 0), (1, 2), (0, 0), (0, 1), (1, 1)] {
         let _ = checks::tick(&table, &bytes, held, unread);
@@ -215,31 +271,15 @@ fn longest(_: &mut Random, index: u64) {
 }
 
 /// Faults of the table, the reading and the tree at once.
-fn refused(random: &mut Random, _: u64) {
-    let table = make::table(random, 20, 4);
-    let bytes = if random.one_in(3) { make::damaged_bytes(random, &table) } else { make::bytes_of(&table) };
+fn refused(random: &mut Random, _: u64, kind: Jobs) {
+    let table = make::table(random, 20, 4, kind);
+    let bytes = if random.one_in(3) { make::damaged_bytes(random, &table) } else { table.bytes() };
     let mut tree = make::tree(random, &table);
     if random.one_in(2) {
         make::damage(random, &mut tree, &make::TREE_COMMANDS);
     }
     let (held, unread) = make::any_reading(random, table.facts);
     let _ = checks::tick(&bytes, &tree, held, unread);
-}
-
-/// A settled answer is the same, at the same leaf, however the unread facts turn out. Gives whether two ways differ.
-fn settled_in_every_filling(bytes: &[u8], tree: &[u8], held: u64, unread: u64) -> (Ticked, bool) {
-    let ticked = checks::tick(bytes, tree, held, unread).expect("a sound tree and reading");
-    let answers: Vec<Ticked> = make::fillings(held, unread)
-        .into_iter()
-        .map(|state| checks::tick(bytes, tree, state, 0).expect("a sound tree and reading"))
-        .collect();
-    for answer in &answers {
-        assert!(!matches!(answer.status, Status::Unsettled(_)), "nothing is unread");
-        if !matches!(ticked.status, Status::Unsettled(_)) {
-            assert_eq!(*answer, ticked, "held {held:x} unread {unread:x}: a settled answer changes");
-        }
-    }
-    (ticked, answers.iter().any(|answer| *answer != answers[0]))
 }
 
 fn small_reading(random: &mut Random, facts: u32) -> (u64, u64) {
@@ -251,34 +291,54 @@ fn small_reading(random: &mut Random, facts: u32) -> (u64, u64) {
     (held & !unread, unread)
 }
 
-fn filling_in_any_tree(random: &mut Random, _: u64) {
-    let table = make::table(random, 10, 4);
+/// A tick of a sound tree on a sound reading.
+fn tick_of<'a>(bytes: &'a [u8], tree: &'a [u8]) -> impl Fn(u64, u64) -> Ticked + 'a {
+    move |held, unread| checks::tick(bytes, tree, held, unread).expect("a sound tree and reading")
+}
+
+fn filling_in_any_tree(random: &mut Random, _: u64, kind: Jobs) {
+    let table = make::table(random, 10, 4, kind);
     let tree = make::tree(random, &table);
     let (held, unread) = small_reading(random, table.facts);
-    settled_in_every_filling(&make::bytes_of(&table), &tree, held, unread);
+    settled_in_every_filling(held, unread, tick_of(&table.bytes(), &tree));
 }
 
 /// On a built tree Unsettled comes only where two ways of filling in differ.
-fn filling_in_built_trees(random: &mut Random, _: u64) {
+fn filling_in_built_trees(random: &mut Random, _: u64, kind: Jobs) {
     let facts = random.between(2, 8) as u32;
-    let table = make::busy_table(random, facts);
+    let table = make::busy_table(random, facts, kind);
+    let bytes = table.bytes();
     let start = random.state(table.facts);
-    let (result, lent) = checks::plan(&make::bytes_of(&table), start, 0, [300, 300, 300, 300, 4_200], start);
+    let (result, lent) = checks::plan(&bytes, start, 0, lists(300, 22 * 300), start);
     let Ok(planned) = result else { return };
-    let tree = &lent.tree[..planned.tree_bytes];
     let (held, unread) = small_reading(random, table.facts);
-    let (ticked, differ) = settled_in_every_filling(&make::bytes_of(&table), tree, held, unread);
-    if let Status::Unsettled(mask) = ticked.status {
-        assert!(differ, "held {held:x} unread {unread:x}: Unsettled, but every way of filling in agrees");
-        assert!(mask != 0 && is_part(mask, unread));
+    check_unsettled(held, unread, tick_of(&bytes, &lent.tree[..planned.tree_bytes]));
+}
+
+/// The same on every reading, of the trees of both plans.
+fn filling_in_every_reading(random: &mut Random, index: u64, kind: Jobs) {
+    let table = make::small_table(random, index, kind);
+    let bytes = table.bytes();
+    let start = random.state(table.facts);
+    let (shift, shift_lent) = checks::plan_shift(&bytes, lists(800, 22 * 800), start);
+    let mut trees = vec![&shift_lent.tree[..shift.expect("a small table's list is not full").tree_bytes]];
+    let (plan, lent) = checks::plan(&bytes, start, 0, lists(800, 22 * 800), start);
+    if let Ok(planned) = plan {
+        trees.push(&lent.tree[..planned.tree_bytes]);
+    }
+    for tree in trees {
+        every_reading(table.facts, |held, unread| check_unsettled(held, unread, tick_of(&bytes, tree)));
     }
 }
 
 /// The widest and the deepest legal trees, and the longest plan, on a stack of 256 KiB.
 fn small_stack(_: &mut Random, _: u64) {
     let trailer_bytes = trailer::table();
-    let (long, start) = make::long_table(12, 0);
-    let long_bytes = make::bytes_of(&long);
+    let longest = |kind: Jobs, entries: usize, tree_bytes: usize| {
+        let table = make::long_table(12, 116, kind);
+        let start = make::long_state(&table, &expand(&table, None, MOST_ENTRIES).0[entries - 1]);
+        Longest { table, start, entries, tree_bytes }
+    };
     let wide = |command: u8, mask: u64| {
         [make::inner(command, 4_096), make::condition(mask).repeat(4_096), vec![END_OF_TREE]].concat()
     };
@@ -302,24 +362,39 @@ fn small_stack(_: &mut Random, _: u64) {
         deep(FALLBACK, 400),
         deep(SEQUENCE, 400),
     ];
-    let long_tree = tree_bytes(&expand(&long, Some(start), MOST_ENTRIES).0);
+    let longest = [longest(Plain, 4_096, 57_343), longest(Paired, 2_978, 65_515)];
     let expected: Vec<[u64; 3]> =
         trees.iter().map(|tree| checks::tick_words(&tick(&trailer_bytes, tree, 1, 0))).collect();
-    let expected_long = checks::tick_words(&tick(&long_bytes, &long_tree, start, 0));
     for words in &expected {
         assert_eq!(words[0], 0, "the trees are legal");
     }
-    let mut lent = Lent::filled([4_096, 4_096, 4_096, 4_096, MOST_TREE_BYTES], 1);
     let on_small_stack = move || {
         let answers: Vec<[u64; 3]> = trees.iter().map(|tree| ffi::tick(&trailer_bytes, tree, 1, 0)).collect();
-        let long_answer = ffi::tick(&long_bytes, &long_tree, start, 0);
-        let planned = ffi::plan(&long_bytes, start, 0, &mut lent);
-        assert_eq!(planned[..3], [0, 4_096, 57_343]);
-        assert_eq!(lent.tree[..57_343], long_tree[..]);
-        (answers, long_answer)
+        longest.iter().for_each(Longest::plan_and_tick);
+        answers
     };
     let thread = std::thread::Builder::new().stack_size(256 * 1024).spawn(on_small_stack).expect("a thread");
-    let (answers, long_answer) = thread.join().expect("the thread ends");
-    assert_eq!(answers, expected);
-    assert_eq!(long_answer, expected_long);
+    assert_eq!(thread.join().expect("the thread ends"), expected);
+}
+
+/// A table of 128 jobs and a start for which a plan is as long as it can be.
+struct Longest {
+    table: Table,
+    start: u64,
+    entries: usize,
+    tree_bytes: usize,
+}
+
+impl Longest {
+    /// By the library alone: the engine's stack is no matter.
+    fn plan_and_tick(&self) {
+        let bytes = self.table.bytes();
+        assert_eq!(self.table.jobs.len(), 128);
+        let mut lent = Lent::full();
+        let planned = ffi::plan(&bytes, self.start, 0, &mut lent);
+        assert_eq!(planned[..3], [0, self.entries as u64, self.tree_bytes as u64]);
+        let job = lent.jobs[self.entries - 1];
+        let ticked = ffi::tick(&bytes, &lent.tree[..self.tree_bytes], self.start, 0);
+        assert_eq!(ticked, [0, ffi::RUNNING, u64::from(job)]);
+    }
 }

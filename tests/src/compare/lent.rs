@@ -1,37 +1,57 @@
-//! Lengths of lent slices, and a list read back from them.
+//! Lengths of lent slices, in the order conditions, second masks, jobs, parents, depths, tree.
 
 use bay_tests::engine::*;
 use bay_tests::random::Random;
 
-pub fn full() -> [usize; 5] {
-    [MOST_ENTRIES, MOST_ENTRIES, MOST_ENTRIES, MOST_ENTRIES, MOST_TREE_BYTES]
+const SECOND_MASKS: usize = 1;
+const TREE: usize = 5;
+
+pub fn full() -> Lengths {
+    lists(MOST_ENTRIES, MOST_TREE_BYTES)
 }
 
-/// The bytes of the tree of so many entries.
-pub fn tree_bytes(entries: usize) -> usize {
-    14 * entries - 1
+/// The bytes of a table's tree of so many entries.
+pub fn tree_bytes(table: &Table, entries: usize) -> usize {
+    if table.is_paired() {
+        22 * entries - 1
+    } else {
+        14 * entries - 1
+    }
 }
 
-pub fn lists(capacity: usize, tree: usize) -> [usize; 5] {
-    [capacity, capacity, capacity, capacity, tree]
+pub fn lists(capacity: usize, tree: usize) -> Lengths {
+    [capacity, capacity, capacity, capacity, capacity, tree]
+}
+
+/// Just enough for a table's list of so many entries and its tree.
+pub fn exactly(table: &Table, entries: usize) -> Lengths {
+    lists(entries, tree_bytes(table, entries))
+}
+
+/// Just enough for the whole list of a table.
+pub fn whole(table: &Table) -> Lengths {
+    exactly(table, expand(table, None, table.most_entries()).0.len())
 }
 
 /// Each table of any length up to `most` entries, and a tree that is too short more often than not.
-pub fn any(random: &mut Random, most: usize) -> [usize; 5] {
-    let mut lengths = [0; 5];
+pub fn any(random: &mut Random, table: &Table, most: usize) -> Lengths {
+    let mut lengths = [0; 6];
     for length in &mut lengths {
         *length = random.below(most + 1);
     }
-    lengths[4] = random.below(14 * most);
+    lengths[TREE] = random.below(tree_bytes(table, most));
     lengths
 }
 
-/// Calls with room for three entries less than `entries` up to two more, each list table the shortest in turn; the tree has room enough.
-pub fn around(random: &mut Random, entries: usize, mut call: impl FnMut(&mut Random, usize, [usize; 5])) {
+/// Calls with room for three entries less than `entries` up to two more, each list table that counts the shortest in turn; the tree has room enough.
+pub fn around(random: &mut Random, table: &Table, entries: usize, mut call: impl FnMut(&mut Random, usize, Lengths)) {
     for capacity in entries.saturating_sub(3)..=entries + 2 {
-        for shortest in 0..4 {
-            let mut lengths = lists(0, tree_bytes(entries) + random.below(3));
-            for length in &mut lengths[..4] {
+        for shortest in 0..TREE {
+            if shortest == SECOND_MASKS && !table.is_paired() {
+                continue;
+            }
+            let mut lengths = lists(0, tree_bytes(table, entries) + random.below(3));
+            for length in &mut lengths[..TREE] {
                 *length = capacity + random.below(4);
             }
             lengths[shortest] = capacity;
@@ -40,19 +60,18 @@ pub fn around(random: &mut Random, entries: usize, mut call: impl FnMut(&mut Ran
     }
 }
 
-/// Trees that are too short for so many entries, just long enough, and longer.
-pub fn trees_around(entries: usize) -> [usize; 7] {
-    let need = tree_bytes(entries);
-    [0, 1, need.saturating_sub(14), need - 1, need, need + 1, need + 40]
+/// Trees that are too short for so many entries of a table's, just long enough, and longer.
+pub fn trees_around(table: &Table, entries: usize) -> [usize; 8] {
+    let need = tree_bytes(table, entries);
+    [0, 1, 14 * entries - 1, need.saturating_sub(14), need - 1, need, need + 1, need + 40]
 }
 
-pub fn list_of(lent: &Lent, entries: usize) -> Vec<Entry> {
-    (0..entries)
-        .map(|i| Entry {
-            condition: lent.conditions[i],
-            job: lent.jobs[i],
-            parent: lent.parents[i],
-            depth: lent.depths[i],
-        })
-        .collect()
+/// Under a table without 0x21, sound or not, the second masks are of no account. So there they are lent in any length, none included.
+pub fn with_second_masks(table: &[u8], lengths: Lengths, pattern: u64) -> Lengths {
+    let mut lengths = lengths;
+    if !read_table(table).is_ok_and(|table| table.is_paired()) {
+        let others = lengths[0];
+        lengths[SECOND_MASKS] = *Random::new(pattern).pick(&[0, 0, 1, others / 2, others, others + 3]);
+    }
+    lengths
 }

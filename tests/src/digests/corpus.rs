@@ -1,8 +1,7 @@
 //! The corpus of the digests: tables, readings, lent slices, trees and folders. Its seed and its generators are its own, so that no change
 //! of another test moves it; whoever changes this file makes the stored digests anew.
 //!
-//! No damaged byte is a command that document 02 has still to bring (0x21 in a table, 0x45 and 0x46 in a tree), so that the digests hold
-//! before and after it.
+//! No damaged byte is a command of document 02 (0x21 in a table, 0x45 and 0x46 in a tree), so that the digests hold before and after it.
 
 use bay_tests::engine::{Card, Lent};
 use bay_tests::random::Random;
@@ -21,7 +20,7 @@ const JOB_LEAF: u8 = 0x44;
 const END_OF_TREE: u8 = 0x4f;
 const TABLE_COMMANDS: [u8; 4] = [FACTS, JOB, GOAL, END_OF_TABLE];
 const TREE_COMMANDS: [u8; 5] = [FALLBACK, SEQUENCE, CONDITION, JOB_LEAF, END_OF_TREE];
-const STILL_TO_COME: [u8; 3] = [0x21, 0x45, 0x46];
+const OF_DOCUMENT_02: [u8; 3] = [0x21, 0x45, 0x46];
 
 /// A table's bytes, sound or not, and a start. The numbers are those of the sound table that it was made from.
 pub struct Case {
@@ -98,7 +97,7 @@ fn damage(random: &mut Random, bytes: &mut Vec<u8>, commands: &[u8]) {
         }
     }
     for byte in bytes {
-        if STILL_TO_COME.contains(byte) {
+        if OF_DOCUMENT_02.contains(byte) {
             *byte ^= 0x80;
         }
     }
@@ -175,7 +174,6 @@ pub fn reading(random: &mut Random, facts: u32) -> (u64, u64) {
 pub fn lent(random: &mut Random, lengths: [usize; 5]) -> Lent {
     let pattern = random.next();
     let fill = |i: usize| (i as u64 ^ pattern).wrapping_mul(0x9e37_79b9_7f4a_7c15);
-    #[allow(clippy::needless_update)]
     Lent {
         conditions: (0..lengths[0]).map(fill).collect(),
         jobs: (0..lengths[1]).map(|i| (fill(i) >> 56) as u8).collect(),

@@ -1,13 +1,22 @@
 //! Tables, readings and trees, sound and damaged.
 
-use bay_tests::engine::*;
-use bay_tests::random::Random;
-use bay_tests::trailer;
+use crate::engine::*;
+use crate::random::Random;
+use crate::trailer;
 
-pub const TABLE_COMMANDS: [u8; 4] = [FACTS, JOB, GOAL, END_OF_TABLE];
-pub const TREE_COMMANDS: [u8; 5] = [FALLBACK, SEQUENCE, CONDITION, JOB_LEAF, END_OF_TREE];
+pub const TABLE_COMMANDS: [u8; 5] = [FACTS, JOB, PAIRED_JOB, GOAL, END_OF_TABLE];
+pub const TREE_COMMANDS: [u8; 6] = [FALLBACK, SEQUENCE, CONDITION, JOB_LEAF, PAIR, END_OF_TREE];
 
-pub fn job(random: &mut Random, facts: u32) -> Job {
+/// Which jobs a table is made of.
+#[derive(Clone, Copy, Debug, PartialEq, Eq)]
+pub enum Jobs {
+    /// Those of document 01 alone.
+    Plain,
+    /// Those of document 02's W10, one at least, with or without those of document 01 between them.
+    Paired,
+}
+
+fn job(random: &mut Random, facts: u32) -> Job {
     let mut adds = random.facts(facts, 2);
     if !random.one_in(12) {
         adds |= 1 << random.below(facts as usize);
@@ -16,25 +25,51 @@ pub fn job(random: &mut Random, facts: u32) -> Job {
     let deletes = random.facts(facts, 2) & !adds;
     let usual = random.below(2_000) as u16;
     let seconds = *random.pick(&[0, 1, 29, 30, 31, 60, 90, 5_399, 5_400, usual]);
-    Job { needs, adds, deletes, seconds }
+    Job::plain(needs, adds, deletes, seconds)
+}
+
+/// Makes a job one that needs facts absent, now and then none. It may add and delete them as well.
+fn pair(random: &mut Random, facts: u32, job: &mut Job) {
+    job.command = PAIRED_JOB;
+    job.absent = random.facts(facts, 2) & !job.needs;
+}
+
+pub fn jobs(random: &mut Random, facts: u32, count: usize, kind: Jobs) -> Vec<Job> {
+    let mut jobs: Vec<Job> = (0..count).map(|_| job(random, facts)).collect();
+    if kind == Jobs::Paired && count > 0 {
+        // All of them, about half of them, or a few.
+        let one_in = *random.pick(&[1, 2, 8]);
+        let surely = random.below(count);
+        for (i, job) in jobs.iter_mut().enumerate() {
+            if i == surely || random.one_in(one_in) {
+                pair(random, facts, job);
+            }
+        }
+    }
+    jobs
 }
 
 /// A sound table.
-pub fn table(random: &mut Random, most_facts: u32, most_jobs: usize) -> Table {
+pub fn table(random: &mut Random, most_facts: u32, most_jobs: usize, kind: Jobs) -> Table {
     let usual = random.between(1, most_facts as usize) as u32;
     let facts = if random.one_in(8) { most_facts } else { usual };
     let count = random.below(most_jobs + 1);
-    let jobs = (0..count).map(|_| job(random, facts)).collect();
+    let jobs = jobs(random, facts, count, kind);
     let goal = if random.one_in(20) { 0 } else { random.facts(facts, 3) | 1 << random.below(facts as usize) };
     Table { facts, jobs, goal }
 }
 
-/// A sound table of so many facts with jobs enough for ways of some length: each needs something.
-pub fn busy_table(random: &mut Random, facts: u32) -> Table {
-    let mut jobs: Vec<Job> =
-        (0..random.between(facts as usize, 2 * facts as usize)).map(|_| job(random, facts)).collect();
+/// A sound table of so many facts with jobs enough for ways of some length: each needs something, held or absent.
+pub fn busy_table(random: &mut Random, facts: u32, kind: Jobs) -> Table {
+    let count = random.between(facts as usize, 2 * facts as usize);
+    let mut jobs = jobs(random, facts, count, kind);
     for job in &mut jobs {
-        job.needs |= (1 << random.below(facts as usize)) & !job.adds;
+        let fact = 1 << random.below(facts as usize);
+        if job.command == PAIRED_JOB && random.one_in(2) {
+            job.absent |= fact & !job.needs;
+        } else {
+            job.needs |= fact & !(job.adds | job.absent);
+        }
     }
     Table { facts, jobs, goal: random.facts(facts, 2) | 1 << random.below(facts as usize) }
 }
@@ -45,31 +80,50 @@ pub fn too_long(random: &mut Random) -> u16 {
     *random.pick(&[5_401, 65_535, any])
 }
 
+/// Lets a job need a fact held and absent. Now and then it adds that fact too, or is too long, which comes first.
+pub fn contradict(random: &mut Random, facts: u32, job: &mut Job) {
+    let fact = 1 << random.below(facts as usize);
+    job.needs |= fact;
+    job.absent |= fact;
+    if !random.one_in(8) {
+        job.adds &= !fact;
+    }
+    if random.one_in(8) {
+        job.seconds = too_long(random);
+    }
+}
+
 /// The bytes of a table with a fault, now and then that of 129 jobs.
 pub fn damaged_bytes(random: &mut Random, table: &Table) -> Vec<u8> {
     if random.one_in(100) {
-        let job = job(random, table.facts);
-        return table_bytes(table.facts as u8, &[job; MOST_JOBS + 1], table.goal);
+        let mut many = vec![job(random, table.facts); MOST_JOBS + 1];
+        if table.is_paired() {
+            let (at, facts) = (random.below(many.len()), table.facts);
+            pair(random, facts, &mut many[at]);
+        }
+        return table_bytes(table.facts as u8, &many, table.goal);
     }
     let mut table = table.clone();
     if random.one_in(10) && !table.jobs.is_empty() {
-        // Too long; what is damaged below may come before it or after it.
-        random.pick_mut(&mut table.jobs).seconds = too_long(random);
+        // What is damaged below may come before it or after it.
+        let facts = table.facts;
+        let job = random.pick_mut(&mut table.jobs);
+        if job.command == PAIRED_JOB && random.one_in(2) {
+            contradict(random, facts, job);
+        } else {
+            job.seconds = too_long(random);
+        }
         if random.one_in(3) {
-            return bytes_of(&table);
+            return table.bytes();
         }
     }
-    let mut bytes = bytes_of(&table);
+    let mut bytes = table.bytes();
     if random.one_in(20) {
         bytes[1] = *random.pick(&[0, 65, 255]);
     } else {
         damage(random, &mut bytes, &TABLE_COMMANDS);
     }
     bytes
-}
-
-pub fn bytes_of(table: &Table) -> Vec<u8> {
-    table_bytes(table.facts as u8, &table.jobs, table.goal)
 }
 
 /// A sound reading.
@@ -141,8 +195,9 @@ pub fn table_like(random: &mut Random) -> Vec<u8> {
         _ => random.facts(u32::from(facts).clamp(1, 64), 2),
     };
     for _ in 0..random.below(4) {
-        bytes.push(JOB);
-        for _ in 0..3 {
+        let (command, masks) = *random.pick(&[(JOB, 3), (PAIRED_JOB, 4)]);
+        bytes.push(command);
+        for _ in 0..masks {
             bytes.extend(mask(random).to_le_bytes());
         }
         let seconds = if random.one_in(4) { too_long(random) } else { random.below(5_401) as u16 };
@@ -151,7 +206,7 @@ pub fn table_like(random: &mut Random) -> Vec<u8> {
             bytes.push(*random.pick(&TABLE_COMMANDS));
         }
     }
-    bytes.push(*random.pick(&[GOAL, GOAL, GOAL, JOB, END_OF_TABLE]));
+    bytes.push(*random.pick(&[GOAL, GOAL, GOAL, GOAL, JOB, PAIRED_JOB, END_OF_TABLE]));
     bytes.extend(mask(random).to_le_bytes());
     bytes.push(*random.pick(&[END_OF_TABLE, END_OF_TABLE, END_OF_TABLE, GOAL, END_OF_TREE]));
     if random.one_in(4) {
@@ -169,20 +224,28 @@ pub fn inner(command: u8, children: usize) -> Vec<u8> {
     bytes
 }
 
+/// A condition with one mask, 0x43.
 pub fn condition(mask: u64) -> Vec<u8> {
-    let mut bytes = vec![CONDITION];
-    bytes.extend(mask.to_le_bytes());
-    bytes
+    [&[CONDITION][..], &mask.to_le_bytes()].concat()
 }
 
-/// A leaf that the table knows.
+/// A condition with both masks, 0x45.
+pub fn pair_condition(present: u64, absent: u64) -> Vec<u8> {
+    [&[PAIR][..], &present.to_le_bytes(), &absent.to_le_bytes()].concat()
+}
+
+/// A leaf that the table knows. Either condition may stand in any tree, also a pair that wants a fact both ways.
 pub fn leaf(random: &mut Random, table: &Table) -> Vec<u8> {
     if !table.jobs.is_empty() && random.one_in(3) {
-        vec![JOB_LEAF, random.below(table.jobs.len()) as u8]
-    } else {
-        // Few facts, so that every answer is common.
-        condition(random.facts(table.facts, 2))
+        return vec![JOB_LEAF, random.below(table.jobs.len()) as u8];
     }
+    // Few facts, so that every answer is common.
+    let present = random.facts(table.facts, 2);
+    if random.one_in(2) {
+        return condition(present);
+    }
+    let absent = random.facts(table.facts, 2);
+    pair_condition(present, if random.one_in(4) { absent } else { absent & !present })
 }
 
 fn node(random: &mut Random, table: &Table, depth: usize, deepest: usize, leaves: &mut usize, bytes: &mut Vec<u8>) {
@@ -230,23 +293,32 @@ pub fn chain(random: &mut Random, table: &Table, above: usize, bottom: &[u8]) ->
     bytes
 }
 
-/// A table of `pairs` facts to reach, each with one job from a fact of its own, and `more` jobs that lead nowhere new: its list
-/// has 2^pairs entries, and its last is the mask of all the facts that it begins with.
-pub fn long_table(pairs: usize, more: usize) -> (Table, u64) {
-    let goal_of = |i: usize| 1u64 << i;
-    let need_of = |i: usize| 1u64 << (pairs + i);
-    let spare = 1u64 << (2 * pairs);
-    let mut jobs = Vec::new();
-    for i in 0..pairs {
-        jobs.push(Job { needs: need_of(i), adds: goal_of(i), deletes: 0, seconds: 60 + i as u16 });
-    }
-    for i in 0..more {
-        let i = i % pairs;
-        jobs.push(Job { needs: need_of(i) | spare, adds: goal_of(i), deletes: 0, seconds: 30 });
-    }
-    let goal = (0..pairs).map(goal_of).sum();
-    let start = (0..pairs).map(need_of).sum();
-    (Table { facts: 2 * pairs as u32 + 1, jobs, goal }, start)
+/// A table of `goals` facts to reach, each with one job from a fact of its own, and `more` jobs that lead nowhere new: its list has 2^goals
+/// entries. Where the jobs are paired, every other one needs its fact absent.
+pub fn long_table(goals: usize, more: usize, kind: Jobs) -> Table {
+    let spare = 1u64 << (2 * goals);
+    let job = |i: usize, needs: u64, seconds: u16| {
+        let (goal, own) = (1 << i, 1u64 << (goals + i));
+        if kind == Jobs::Paired && i % 2 == 1 {
+            Job::paired(needs, own, goal, 0, seconds)
+        } else {
+            Job::plain(needs | own, goal, 0, seconds)
+        }
+    };
+    let mut jobs: Vec<Job> = (0..goals).map(|i| job(i, 0, 60 + i as u16)).collect();
+    jobs.extend((0..more).map(|i| job(i % goals, spare, 30)));
+    Table { facts: 2 * goals as u32 + 1, jobs, goal: all_facts(goals as u32) }
+}
+
+/// A state of a long table that meets this entry of its list and no other.
+pub fn long_state(table: &Table, entry: &Entry) -> u64 {
+    let needed_absent = table.jobs.iter().fold(0, |mask, job| mask | job.absent);
+    entry.condition.present | (needed_absent & !entry.condition.absent)
+}
+
+/// The start of a long table from which its list is whole: it meets the last entry.
+pub fn long_start(table: &Table) -> u64 {
+    table.jobs.iter().fold(0, |mask, job| mask | job.needs) & !(1 << (table.facts - 1))
 }
 
 /// A counter of `bits` bits, each with a fact for set and one for clear: the one way from all clear to all set has 2^bits - 1
@@ -258,11 +330,26 @@ pub fn counter_table(bits: usize, seconds: u16) -> (Table, u64) {
         .map(|i| {
             let lower_set: u64 = (0..i).map(set).sum();
             let lower_clear: u64 = (0..i).map(clear).sum();
-            Job { needs: clear(i) | lower_set, adds: set(i) | lower_clear, deletes: clear(i) | lower_set, seconds }
+            Job::plain(clear(i) | lower_set, set(i) | lower_clear, clear(i) | lower_set, seconds)
         })
         .collect();
     let table = Table { facts: 2 * bits as u32, jobs, goal: (0..bits).map(set).sum() };
     (table, (0..bits).map(clear).sum())
+}
+
+/// A counter of `bits` bits, each with one fact, and a last job that needs it to stand at `last` and brings about the goal: the one way from 0 has
+/// `last` + 1 jobs, and the list has one entry more.
+pub fn pair_counter_table(bits: usize, last: u64, seconds: u16) -> Table {
+    let all = all_facts(bits as u32);
+    let done = all + 1;
+    let increment = |i: usize| {
+        let bit = 1u64 << i;
+        let lower = bit - 1;
+        Job::paired(lower, bit, bit, lower, seconds)
+    };
+    let mut jobs: Vec<Job> = (0..bits).map(increment).collect();
+    jobs.push(Job::paired(last, all & !last, done, 0, seconds));
+    Table { facts: bits as u32 + 1, jobs, goal: done }
 }
 
 /// Every state that has the held facts and, of the unread ones, any.
@@ -279,13 +366,15 @@ pub fn fillings(held: u64, unread: u64) -> Vec<u64> {
 }
 
 /// A table whose states can all be tried: the trailer's, small counters, and random ones.
-pub fn small_table(random: &mut Random, index: u64) -> Table {
+pub fn small_table(random: &mut Random, index: u64, kind: Jobs) -> Table {
     let facts = random.between(3, 5) as u32;
-    match index {
-        0 => read_table(&trailer::table()).expect("sound"),
-        1 | 2 => counter_table(index as usize + 1, MOST_SECONDS).0,
-        _ if index % 8 == 4 => busy_table(random, 6),
-        _ if index % 2 == 0 => busy_table(random, facts),
-        _ => table(random, 5, 8),
+    match (index, kind) {
+        (0, Jobs::Plain) => read_table(&trailer::table()).expect("sound"),
+        (0, Jobs::Paired) => read_table(&trailer::one_fact_less::table()).expect("sound"),
+        (1 | 2, Jobs::Plain) => counter_table(index as usize + 1, MOST_SECONDS).0,
+        (1 | 2, Jobs::Paired) => pair_counter_table(index as usize + 2, 3 * index + 3, MOST_SECONDS),
+        _ if index % 8 == 4 => busy_table(random, 6, kind),
+        _ if index % 2 == 0 => busy_table(random, facts, kind),
+        _ => table(random, 5, 8, kind),
     }
 }

@@ -1,0 +1,120 @@
+//! What a small table comes to, by brute force over all states: the fewest jobs, whole runs of ticks, and every way in which unread facts can turn
+//! out. Who ticks is an argument: the engine, or the library beside it.
+
+use crate::engine::*;
+use crate::make;
+
+fn states(table: &Table) -> std::ops::Range<u64> {
+    0..1 << table.facts
+}
+
+/// For every state, the fewest jobs that lead to the goal, by brute force over all states.
+pub fn distances(table: &Table) -> Vec<Option<usize>> {
+    let mut distance: Vec<Option<usize>> = states(table).map(|state| is_part(table.goal, state).then_some(0)).collect();
+    for length in 1.. {
+        let mut grown = false;
+        for state in states(table) {
+            let reaches = |job: &Job| {
+                job.is_applicable(state, 0)
+                    && distance[job.finish(state) as usize].is_some_and(|rest| rest + 1 == length)
+            };
+            if distance[state as usize].is_none() && table.jobs.iter().any(reaches) {
+                distance[state as usize] = Some(length);
+                grown = true;
+            }
+        }
+        if !grown {
+            break;
+        }
+    }
+    distance
+}
+
+/// The first entry of a list that a state meets.
+pub fn first_met(list: &[Entry], state: u64) -> Option<usize> {
+    list.iter().position(|entry| entry.condition.is_met_by(state))
+}
+
+/// The jobs of a run from a state, and whether it ends with Success; a job that is not applicable ends it too.
+pub fn run(table: &Table, state: u64, tick: impl Fn(u64) -> Result<Ticked, Refusal>) -> (Vec<u8>, bool) {
+    let mut jobs = Vec::new();
+    let mut state = state;
+    loop {
+        match tick(state).map(|ticked| ticked.status) {
+            Ok(Status::Success) => return (jobs, true),
+            Ok(Status::Running(number)) => {
+                let job = &table.jobs[usize::from(number)];
+                if !job.is_applicable(state, 0) {
+                    return (jobs, false);
+                }
+                jobs.push(number);
+                state = job.finish(state);
+            }
+            _ => return (jobs, false),
+        }
+        assert!(jobs.len() <= MOST_ENTRIES, "the run does not end");
+    }
+}
+
+/// Demand 3 on a list and its tree: from every state that the list covers the run ends with Success after the fewest jobs, which are as many as
+/// the first entry met is deep, and W5: they are "in order, those from the first entry met along its parents to entry 0, and no others". From
+/// every other state it fails at once.
+pub fn check_runs(
+    table: &Table,
+    list: &[Entry],
+    distance: &[Option<usize>],
+    tick: impl Fn(u64) -> Result<Ticked, Refusal>,
+) {
+    for state in states(table) {
+        let (jobs, success) = run(table, state, &tick);
+        match first_met(list, state) {
+            Some(first) => {
+                assert!(success, "the run from {state:x} does not reach the goal");
+                assert_eq!(Some(jobs.len()), distance[state as usize], "jobs of the run from {state:x}");
+                assert_eq!(jobs.len(), usize::from(list[first].depth));
+                assert_eq!(jobs, way_from(list, first), "the way from {state:x}");
+            }
+            None => assert_eq!((jobs.len(), success), (0, false)),
+        }
+    }
+}
+
+/// Document 02, W2: "A state then meets some condition of the tree exactly when a sequence of jobs leads from it to the goal."
+pub fn check_cover(table: &Table, list: &[Entry], distance: &[Option<usize>]) {
+    for state in states(table) {
+        assert_eq!(first_met(list, state).is_some(), distance[state as usize].is_some(), "cover of {state:x}");
+    }
+}
+
+/// Document 02, W2: "each entry must be the first one met in at least one state"; of tables without 0x21 (W10).
+pub fn check_no_dead_lines(table: &Table, list: &[Entry]) {
+    let mut first_in_some = vec![false; list.len()];
+    for state in states(table) {
+        if let Some(first) = first_met(list, state) {
+            first_in_some[first] = true;
+        }
+    }
+    assert!(first_in_some.iter().all(|met| *met), "a dead line in {list:x?}");
+}
+
+/// A settled answer is the same, at the same leaf, however the unread facts turn out. Gives the answer, and whether two ways differ.
+pub fn settled_in_every_filling(held: u64, unread: u64, tick: impl Fn(u64, u64) -> Ticked) -> (Ticked, bool) {
+    let ticked = tick(held, unread);
+    let answers: Vec<Ticked> = make::fillings(held, unread).into_iter().map(|state| tick(state, 0)).collect();
+    for answer in &answers {
+        assert!(!matches!(answer.status, Status::Unsettled(_)), "nothing is unread");
+        if !matches!(ticked.status, Status::Unsettled(_)) {
+            assert_eq!(*answer, ticked, "held {held:x} unread {unread:x}: a settled answer changes");
+        }
+    }
+    (ticked, answers.iter().any(|answer| *answer != answers[0]))
+}
+
+/// On a built tree Unsettled comes only where two ways of filling in differ.
+pub fn check_unsettled(held: u64, unread: u64, tick: impl Fn(u64, u64) -> Ticked) {
+    let (ticked, differ) = settled_in_every_filling(held, unread, tick);
+    if let Status::Unsettled(mask) = ticked.status {
+        assert!(differ, "held {held:x} unread {unread:x}: Unsettled, but every way of filling in agrees");
+        assert!(mask != 0 && is_part(mask, unread));
+    }
+}
