@@ -28,6 +28,7 @@ static const uint8_t trailer_table[147] = {
 
 static uint8_t file_table[65536];
 static uint64_t conditions[BAY_MAX_ENTRIES];
+static uint64_t absences[BAY_MAX_PAIR_ENTRIES];
 static uint8_t jobs[BAY_MAX_ENTRIES];
 static uint16_t parents[BAY_MAX_ENTRIES];
 static uint16_t depths[BAY_MAX_ENTRIES];
@@ -79,9 +80,11 @@ int main(int count, char **words) {
     if (header.refusal != BAY_OK) {
         return refused("table", header.refusal, header.place);
     }
-    printf("table: %zu facts, %zu jobs, goal %016" PRIx64 "\n", header.facts, header.jobs, header.goal);
+    printf("table: %zu facts, %zu jobs, goal %016" PRIx64 "%s\n", header.facts, header.jobs, header.goal,
+           header.paired ? ", paired" : "");
 
-    struct bay_plan_room room = {conditions, jobs, parents, depths, BAY_MAX_ENTRIES, tree_bytes, sizeof tree_bytes};
+    struct bay_plan_room room = {conditions, jobs, parents, depths, BAY_MAX_ENTRIES, absences, BAY_MAX_PAIR_ENTRIES, tree_bytes,
+                                 sizeof tree_bytes};
     struct bay_planned plan = bay_tree_plan(table, start, room);
     if (plan.refusal != BAY_OK) {
         return refused("plan", plan.refusal, plan.place);
@@ -122,10 +125,10 @@ int main(int count, char **words) {
     printf("card: %u reports, taken %" PRIu32 ", planned %" PRIu32 ", late by %" PRId64 " minutes\n", (unsigned)card.reports,
            card.taken, card.planned, bay_card_lateness(&card));
 
-    /* A job whose needs are not held is refused, and the card stays as it was. */
+    /* A job whose needs are not held, or whose absent facts are, is refused, and the card stays as it was. */
     for (size_t number = 0; number < header.jobs; number++) {
         struct bay_job job = bay_table_read_job(table, number);
-        if ((job.needs & ~card.held) != 0) {
+        if ((job.needs & ~card.held) != 0 || (job.absent & card.held) != 0) {
             uint16_t reports = card.reports;
             done = bay_card_report(&card, table, number, 60);
             printf("job %zu now: refused %d %zu, %s\n", number, (int)done.refusal, done.place,

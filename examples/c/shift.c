@@ -12,6 +12,7 @@
 
 static uint8_t table_bytes[65536];
 static uint64_t conditions[BAY_MAX_ENTRIES];
+static uint64_t absences[BAY_MAX_PAIR_ENTRIES];
 static uint8_t jobs[BAY_MAX_ENTRIES];
 static uint16_t parents[BAY_MAX_ENTRIES];
 static uint16_t depths[BAY_MAX_ENTRIES];
@@ -57,7 +58,8 @@ int main(int count, char **words) {
     struct bay_table table = {table_bytes, fread(table_bytes, 1, sizeof table_bytes, file)};
     fclose(file);
 
-    struct bay_plan_room room = {conditions, jobs, parents, depths, BAY_MAX_ENTRIES, tree_bytes, sizeof tree_bytes};
+    struct bay_plan_room room = {conditions, jobs, parents, depths, BAY_MAX_ENTRIES, absences, BAY_MAX_PAIR_ENTRIES, tree_bytes,
+                                 sizeof tree_bytes};
     struct bay_shift_planned shift = bay_tree_plan_shift(table, room);
     if (shift.refusal != BAY_OK) {
         return refused("shift", shift.refusal, shift.place);

@@ -7,12 +7,22 @@
 
 #include "bay.h"
 
-enum { SEQUENCE = 0x42, FALLBACK = 0x41, CONDITION = 0x43, JOB_LEAF = 0x44, END_OF_TREE = 0x4f, DEEPEST = 16, WIDEST = 4096 };
+enum {
+    FALLBACK = 0x41,
+    SEQUENCE = 0x42,
+    CONDITION = 0x43,
+    JOB_LEAF = 0x44,
+    PAIR = 0x45,
+    END_OF_TREE = 0x4f,
+    DEEPEST = 16,
+    WIDEST = 4096
+};
 
 static uint8_t table_bytes[BAY_MAX_TABLE_BYTES];
 static uint8_t tree_bytes[BAY_MAX_TREE_BYTES];
 static size_t tree_length;
 static uint64_t conditions[BAY_MAX_ENTRIES];
+static uint64_t absences[BAY_MAX_PAIR_ENTRIES];
 static uint8_t jobs[BAY_MAX_ENTRIES];
 static uint16_t parents[BAY_MAX_ENTRIES];
 static uint16_t depths[BAY_MAX_ENTRIES];
@@ -27,11 +37,21 @@ static void put_inner(unsigned command, unsigned children) {
     put(children >> 8);
 }
 
-static void put_condition(uint64_t mask) {
-    put(CONDITION);
+static void put_mask(uint64_t mask) {
     for (int i = 0; i < 8; i++) {
         put((unsigned)(mask >> 8 * i) & 0xff);
     }
+}
+
+static void put_condition(uint64_t mask) {
+    put(CONDITION);
+    put_mask(mask);
+}
+
+static void put_pair(uint64_t present, uint64_t absent) {
+    put(PAIR);
+    put_mask(present);
+    put_mask(absent);
 }
 
 static int tick(const char *name, struct bay_table table, uint64_t held) {
@@ -43,23 +63,53 @@ static int tick(const char *name, struct bay_table table, uint64_t held) {
     return ticked.refusal == BAY_OK;
 }
 
-int main(void) {
-    /* Twelve facts to reach, each from a fact of its own: the list has 4,096 entries. */
-    uint64_t needs[12], adds[12], deletes[12];
-    uint16_t seconds[12];
-    for (int i = 0; i < 12; i++) {
-        needs[i] = (uint64_t)1 << (12 + i);
-        adds[i] = (uint64_t)1 << i;
+/* Plans for the whole shift, which lists all that there is room for, then for a start that meets the last entry listed and no earlier one, and
+ * ticks the tree of that plan. */
+static int plan(const char *name, struct bay_table table, uint64_t needed_absent) {
+    struct bay_plan_room room = {conditions, jobs, parents, depths, BAY_MAX_ENTRIES, absences, BAY_MAX_PAIR_ENTRIES, tree_bytes,
+                                 sizeof tree_bytes};
+    struct bay_shift_planned shift = bay_tree_plan_shift(table, room);
+    printf("%s for the shift: refusal %d, place %zu, %zu entries, %zu bytes\n", name, (int)shift.refusal, shift.place,
+           shift.entries, shift.tree_bytes);
+    size_t last = (shift.refusal == BAY_OK ? shift.entries : shift.place) - 1;
+    struct bay_reading start = {conditions[last], 0};
+    if (needed_absent != 0) {
+        start.held |= needed_absent & ~absences[last];
+    }
+    struct bay_planned plan = bay_tree_plan(table, start, room);
+    printf("%s: refusal %d, %zu entries, %zu bytes, %zu jobs, %" PRIu32 " minutes\n", name, (int)plan.refusal, plan.entries,
+           plan.tree_bytes, plan.way_jobs, plan.way_minutes);
+    tree_length = plan.tree_bytes;
+    return plan.refusal == BAY_OK && tick("built", table, start.held);
+}
+
+/* Twelve facts to reach, each from a fact of its own, so that the list would have 4,096 entries; the jobs after the first twelve do the same
+ * from one fact more, and what they give is dropped. A job whose own fact is one of these needs it absent, any other needs it held. */
+static struct bay_table write_table(uint64_t needed_absent) {
+    static uint64_t needs[BAY_MAX_JOBS], absent[BAY_MAX_JOBS], adds[BAY_MAX_JOBS], deletes[BAY_MAX_JOBS];
+    static uint8_t commands[BAY_MAX_JOBS];
+    static uint16_t seconds[BAY_MAX_JOBS];
+    for (int i = 0; i < BAY_MAX_JOBS; i++) {
+        uint64_t own = (uint64_t)1 << (12 + i % 12);
+        uint64_t more = i < 12 ? 0 : (uint64_t)1 << 24;
+        absent[i] = own & needed_absent;
+        commands[i] = absent[i] != 0 ? BAY_PAIRED_JOB : BAY_JOB;
+        needs[i] = more | (own & ~needed_absent);
+        adds[i] = (uint64_t)1 << i % 12;
         deletes[i] = 0;
         seconds[i] = 60;
     }
-    struct bay_columns columns = {needs, adds, deletes, seconds, 12};
-    struct bay_written written = bay_table_write(24, columns, 0xfff, table_bytes, sizeof table_bytes);
+    struct bay_columns columns = {commands, needs, absent, adds, deletes, seconds, BAY_MAX_JOBS};
+    struct bay_written written = bay_table_write(25, columns, 0xfff, table_bytes, sizeof table_bytes);
     if (written.refusal != BAY_OK) {
         printf("the table is refused: %d %zu\n", (int)written.refusal, written.place);
-        return 1;
     }
     struct bay_table table = {table_bytes, written.bytes};
+    return table;
+}
+
+int main(void) {
+    struct bay_table table = write_table(0);
     int ok = 1;
 
     /* Every child of the widest node is ticked: none of the conditions holds. */
@@ -80,7 +130,7 @@ int main(void) {
     put(END_OF_TREE);
     ok &= tick("deepest", table, 1);
 
-    /* Both at once: 400 children on each of fifteen levels. */
+    /* Both at once: 400 children on each of fifteen levels; and 200 with two masks. */
     tree_length = 0;
     for (int i = 1; i < DEEPEST; i++) {
         put_inner(SEQUENCE, 400);
@@ -91,18 +141,19 @@ int main(void) {
     put_condition(1);
     put(END_OF_TREE);
     ok &= tick("deep and wide", table, 1);
+    tree_length = 0;
+    for (int i = 1; i < DEEPEST; i++) {
+        put_inner(FALLBACK, 200);
+        for (int child = 1; child < 200; child++) {
+            put_pair(2, 1);
+        }
+    }
+    put_pair(1, 2);
+    put(END_OF_TREE);
+    ok &= tick("deep and wide with pairs", table, 1);
 
-    struct bay_reading start = {0xfff000, 0};
-    struct bay_plan_room room = {conditions, jobs, parents, depths, BAY_MAX_ENTRIES, tree_bytes, sizeof tree_bytes};
-    struct bay_planned plan = bay_tree_plan(table, start, room);
-    printf("plan: refusal %d, %zu entries, %zu bytes, %zu jobs, %" PRIu32 " minutes\n", (int)plan.refusal, plan.entries,
-           plan.tree_bytes, plan.way_jobs, plan.way_minutes);
-    ok &= plan.refusal == BAY_OK;
-    tree_length = plan.tree_bytes;
-    ok &= tick("built", table, start.held);
-
-    struct bay_shift_planned shift = bay_tree_plan_shift(table, room);
-    printf("shift: refusal %d, %zu entries, %zu bytes\n", (int)shift.refusal, shift.entries, shift.tree_bytes);
-    ok &= shift.refusal == BAY_OK;
+    ok &= plan("plan", table, 0);
+    uint64_t every_other = 0xaaa000;
+    ok &= plan("plan with pairs", write_table(every_other), every_other);
     return ok ? 0 : 1;
 }

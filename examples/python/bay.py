@@ -22,8 +22,9 @@ from typing import NamedTuple, Optional, Tuple
 MAX_FACTS = 64
 MAX_JOBS = 128
 MAX_SECONDS = 5400
-MAX_TABLE_BYTES = 3468
+MAX_TABLE_BYTES = 4492
 MAX_ENTRIES = 4096
+MAX_PAIR_ENTRIES = 2978
 MAX_TREE_BYTES = 65535
 NO_JOB = 255
 
@@ -51,9 +52,18 @@ class Refusal(enum.IntEnum):
     NEED_NOT_HELD = 17
     CARD_EXHAUSTED = 18
     JOB_TOO_LONG = 19
+    NEEDS_CONTRADICT = 22
     TOO_SHORT = 100
     UNEVEN = 101
     SECONDS_OUT_OF_RANGE = 102
+    UNWRITABLE = 103
+
+
+class JobCommand(enum.IntEnum):
+    """The commands that a job stands in a table by. A table with a PAIRED_JOB is called paired."""
+
+    JOB = 0x20
+    PAIRED_JOB = 0x21
 
 
 class Status(enum.IntEnum):
@@ -81,13 +91,18 @@ class Header(NamedTuple):
     facts: int
     jobs: int
     goal: int
+    paired: bool
 
 
 class Job(NamedTuple):
+    """A job; one that needs facts absent has the command PAIRED_JOB."""
+
     needs: int
     adds: int
     deletes: int
     seconds: int
+    absent: int = 0
+    command: int = JobCommand.JOB
 
 
 class Entry(NamedTuple):
@@ -95,6 +110,7 @@ class Entry(NamedTuple):
     job: Optional[int]  # None at entry 0
     parent: int
     depth: int
+    absent: int = 0  # the facts to be absent, of a paired table
 
 
 class Plan(NamedTuple):
@@ -102,11 +118,13 @@ class Plan(NamedTuple):
     tree: bytes
     way_jobs: int
     way_minutes: int
+    paired: bool
 
 
 class ShiftPlan(NamedTuple):
     entries: Tuple[Entry, ...]
     tree: bytes
+    paired: bool
 
 
 class Tick(NamedTuple):
@@ -161,10 +179,10 @@ _ANSWER = [POINTER(c_uint64)]
 _PARAMETERS = {
     "bay_read_table": _SLICE + _ANSWER,
     "bay_read_job": _SLICE + [c_size_t] + _ANSWER,
-    "bay_write_table": [c_size_t] + _SLICE * 4 + [c_uint64] + _SLICE + _ANSWER,
-    "bay_plan": _SLICE + _MASKS + _SLICE * 5 + _ANSWER,
-    "bay_plan_shift": _SLICE + _SLICE * 5 + _ANSWER,
-    "bay_newest_weaker": _SLICE + [c_uint64] + _ANSWER,
+    "bay_write_table": [c_size_t] + _SLICE * 6 + [c_uint64] + _SLICE + _ANSWER,
+    "bay_plan": _SLICE + _MASKS + _SLICE * 6 + _ANSWER,
+    "bay_plan_shift": _SLICE + _SLICE * 6 + _ANSWER,
+    "bay_newest_weaker": _SLICE * 2 + _MASKS + _ANSWER,
     "bay_tick": _SLICE * 2 + _MASKS + _ANSWER,
     "bay_open": _SLICE + _MASKS + _CARD + _ANSWER,
     "bay_read_outside": _SLICE + _MASKS + _CARD[:2] + _ANSWER,
@@ -210,18 +228,32 @@ class Bay:
     # ---- the table
 
     def read_table(self, table) -> Header:
-        return Header(*self._call("bay_read_table", 4, *_bytes("table", table)))
+        facts, jobs, goal, paired = self._call("bay_read_table", 5, *_bytes("table", table))
+        return Header(facts, jobs, goal, bool(paired))
 
     def read_job(self, table, job) -> Job:
-        return Job(*self._call("bay_read_job", 5, *_bytes("table", table), _number("job", job, 64)))
+        *members, command = self._call("bay_read_job", 7, *_bytes("table", table), _number("job", job, 64))
+        return Job(*members, JobCommand(command))
+
+    # The columns of a table in the order in which they are lent.
+    COLUMNS = [
+        ("command", c_uint8, 8),
+        ("needs", c_uint64, 64),
+        ("absent", c_uint64, 64),
+        ("adds", c_uint64, 64),
+        ("deletes", c_uint64, 64),
+        ("seconds", c_uint16, 16),
+    ]
 
     def write_table(self, facts, jobs, goal) -> bytes:
-        """The bytes of a table; each job is a Job, or its needs, adds, deletes and seconds in that order."""
+        """The bytes of a table; each job is a Job, or its members in that order. UNWRITABLE where a job's command is none of JobCommand, or is
+        JOB and the job needs a fact absent."""
         jobs = [Job(*job) for job in jobs]
         columns = []
-        for name, kind, bits in [("needs", c_uint64, 64), ("adds", c_uint64, 64), ("deletes", c_uint64, 64), ("seconds", c_uint16, 16)]:
+        for name, kind, bits in self.COLUMNS:
             columns += _row(kind, [_number(f"job {i}'s {name}", getattr(job, name), bits) for i, job in enumerate(jobs)])
-        out, room = _row(c_uint8, bytes(12 + 27 * len(jobs)))
+        # Room for jobs of the wider command.
+        out, room = _row(c_uint8, bytes(12 + 35 * len(jobs)))
         facts, goal = _number("facts", facts, 64), _number("goal", goal, 64)
         (length,) = self._call("bay_write_table", 2, facts, *columns, goal, out, room)
         return bytes(out[:length])
@@ -231,25 +263,29 @@ class Bay:
     def _planned(self, name, words, arguments, most_entries, most_tree_bytes):
         most_entries = _number("most_entries", most_entries, 32)
         most_tree_bytes = _number("most_tree_bytes", most_tree_bytes, 32)
-        rows = [_row(kind, [0] * most_entries) for kind in (c_uint64, c_uint8, c_uint16, c_uint16)]
+        # Conditions, second masks, jobs, parents, depths.
+        rows = [_row(kind, [0] * most_entries) for kind in (c_uint64, c_uint64, c_uint8, c_uint16, c_uint16)]
         tree = _row(c_uint8, bytes(most_tree_bytes))
         lent = [part for row in rows + [tree] for part in row]
-        entries, length, *more = self._call(name, words, *arguments, *lent)
-        listed = zip(*(row[:entries] for row, _ in rows))
-        listed = tuple(Entry(condition, job if i else None, parent, depth) for i, (condition, job, parent, depth) in enumerate(listed))
-        return (listed, bytes(tree[0][:length]), *more)
+        entries, length, *more, paired = self._call(name, words, *arguments, *lent)
+        listed = enumerate(zip(*(row[:entries] for row, _ in rows)))
+        # A table that is not paired leaves the second masks as they are lent: 0.
+        listed = tuple(Entry(condition, job if i else None, parent, depth, absent) for i, (condition, absent, job, parent, depth) in listed)
+        return (listed, bytes(tree[0][:length]), *more, bool(paired))
 
     def plan(self, table, start, most_entries=MAX_ENTRIES, most_tree_bytes=MAX_TREE_BYTES) -> Plan:
         arguments = (*_bytes("table", table), *_masks("start", start))
-        return Plan(*self._planned("bay_plan", 5, arguments, most_entries, most_tree_bytes))
+        return Plan(*self._planned("bay_plan", 6, arguments, most_entries, most_tree_bytes))
 
     def plan_shift(self, table, most_entries=MAX_ENTRIES, most_tree_bytes=MAX_TREE_BYTES) -> ShiftPlan:
-        return ShiftPlan(*self._planned("bay_plan_shift", 3, _bytes("table", table), most_entries, most_tree_bytes))
+        return ShiftPlan(*self._planned("bay_plan_shift", 4, _bytes("table", table), most_entries, most_tree_bytes))
 
-    def newest_weaker(self, listed, condition):
-        """The newest entry of listed conditions that is a part of a condition, or None."""
-        listed = _row(c_uint64, [_number(f"entry {i}", mask, 64) for i, mask in enumerate(listed)])
-        found, entry = self._call("bay_newest_weaker", 3, *listed, _number("condition", condition, 64))
+    def newest_weaker(self, listed, condition, absences=(), absent=0):
+        """The newest entry of listed conditions that is a part of a condition, or None. Entry i wants the facts of listed[i] held and those of
+        absences[i] absent, if there are so many, and else none."""
+        rows = [_row(c_uint64, [_number(f"entry {i}", mask, 64) for i, mask in enumerate(masks)]) for masks in (listed, absences)]
+        masks = (_number("condition", condition, 64), _number("absent", absent, 64))
+        found, entry = self._call("bay_newest_weaker", 3, *rows[0], *rows[1], *masks)
         return entry if found else None
 
     # ---- the tick

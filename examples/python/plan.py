@@ -1,4 +1,5 @@
-"""Plans the work on a trailer and follows three vehicles with the one tree.
+"""Plans the work on a trailer and follows vehicles with the one tree; then the same with one fact less, "trailer off" as the absence of "trailer
+on".
 
     python3 examples/python/plan.py target/libbay.so
 
@@ -6,37 +7,76 @@ bay.py says how the shared object is made.
 """
 
 import sys
+from typing import List, NamedTuple
 
-from bay import Bay, Job, Reading, Refused, Status
+from bay import Bay, Job, JobCommand, Reading, Refused, Status
 
 JOB_NAMES = ["couple", "uncouple", "measure unloaded", "measure loaded", "seal"]
-FACT_NAMES = ["trailer off", "trailer on", "unloaded known", "loaded known", "sealed"]
-JOBS = [
-    Job(needs=0x01, adds=0x02, deletes=0x01, seconds=300),
-    Job(needs=0x02, adds=0x01, deletes=0x02, seconds=240),
-    Job(needs=0x01, adds=0x04, deletes=0x00, seconds=600),
-    Job(needs=0x02, adds=0x08, deletes=0x00, seconds=600),
-    Job(needs=0x0C, adds=0x10, deletes=0x00, seconds=150),
-]
 
 
-def facts_of(mask):
-    return ", ".join(name for i, name in enumerate(FACT_NAMES) if mask >> i & 1) or "nothing"
+class Workshop(NamedTuple):
+    facts: List[str]
+    jobs: List[Job]
+    goal: int
+
+    def named(self, mask):
+        return ", ".join(name for i, name in enumerate(self.facts) if mask >> i & 1) or "nothing"
 
 
-def follow(bay, table, tree, reading, truly):
+TRAILER = Workshop(
+    facts=["trailer off", "trailer on", "unloaded known", "loaded known", "sealed"],
+    jobs=[
+        Job(needs=0x01, adds=0x02, deletes=0x01, seconds=300),
+        Job(needs=0x02, adds=0x01, deletes=0x02, seconds=240),
+        Job(needs=0x01, adds=0x04, deletes=0x00, seconds=600),
+        Job(needs=0x02, adds=0x08, deletes=0x00, seconds=600),
+        Job(needs=0x0C, adds=0x10, deletes=0x00, seconds=150),
+    ],
+    goal=0x10,
+)
+ONE_FACT_LESS = Workshop(
+    facts=TRAILER.facts[1:],
+    jobs=[
+        Job(needs=0x00, adds=0x01, deletes=0x00, seconds=300, absent=0x01, command=JobCommand.PAIRED_JOB),
+        Job(needs=0x01, adds=0x00, deletes=0x01, seconds=240),
+        Job(needs=0x00, adds=0x02, deletes=0x00, seconds=600, absent=0x01, command=JobCommand.PAIRED_JOB),
+        Job(needs=0x01, adds=0x04, deletes=0x00, seconds=600),
+        Job(needs=0x06, adds=0x08, deletes=0x00, seconds=150),
+    ],
+    goal=0x08,
+)
+
+
+def planned(bay, workshop, held):
+    """The table of a workshop and its plan for a start."""
+    table = bay.write_table(len(workshop.facts), workshop.jobs, workshop.goal)
+    header = bay.read_table(table)
+    print(f"table: {len(table)} bytes, {header.facts} facts, {header.jobs} jobs, goal {workshop.named(header.goal)}")
+
+    plan = bay.plan(table, Reading(held))
+    print(f"plan: {len(plan.entries)} entries, {len(plan.tree)} tree bytes, {plan.way_jobs} jobs, {plan.way_minutes} minutes")
+    for number, entry in enumerate(plan.entries):
+        condition = workshop.named(entry.condition)
+        if entry.absent:
+            condition += f" and not {workshop.named(entry.absent)}"
+        job = "-" if entry.job is None else JOB_NAMES[entry.job]
+        print(f"  {number} {condition}: {job}, parent {entry.parent}, depth {entry.depth}")
+    return table, plan
+
+
+def follow(bay, workshop, table, tree, reading, truly):
     """Ticks and reports to the goal. `truly` is what is so on the vehicle: a fact that is asked for is read off it."""
     card = bay.open(table, reading)
-    print(f"vehicle: held {facts_of(reading.held)}; unread {facts_of(reading.unread)}")
+    print(f"vehicle: held {workshop.named(reading.held)}; unread {workshop.named(reading.unread)}")
     while True:
         tick = bay.tick_card(table, tree, card)
         if tick.status == Status.RUNNING:
             job = bay.read_job(table, tick.job)
             card = bay.report(table, card, tick.job, job.seconds + 45)
             truly = (truly | job.adds) & ~job.deletes
-            print(f"  job {tick.job}, {JOB_NAMES[tick.job]}; held {facts_of(card.held)}")
+            print(f"  job {tick.job}, {JOB_NAMES[tick.job]}; held {workshop.named(card.held)}")
         elif tick.status == Status.UNSETTLED:
-            print(f"  to be read first: {facts_of(tick.to_read)}")
+            print(f"  to be read first: {workshop.named(tick.to_read)}")
             card = bay.read_outside(table, card, Reading(card.held | truly & tick.to_read, card.unread & ~tick.to_read))
         else:
             print("  sealed" if tick.status == Status.SUCCESS else "  not covered by this tree")
@@ -46,19 +86,10 @@ def follow(bay, table, tree, reading, truly):
 
 def main():
     bay = Bay(sys.argv[1] if len(sys.argv) > 1 else "target/libbay.so")
-    table = bay.write_table(5, JOBS, 0x10)
-    header = bay.read_table(table)
-    print(f"table: {len(table)} bytes, {header.facts} facts, {header.jobs} jobs, goal {facts_of(header.goal)}")
-
-    plan = bay.plan(table, Reading(held=0x02))
-    print(f"plan: {len(plan.entries)} entries, {len(plan.tree)} tree bytes, {plan.way_jobs} jobs, {plan.way_minutes} minutes")
-    for number, entry in enumerate(plan.entries):
-        job = "-" if entry.job is None else JOB_NAMES[entry.job]
-        print(f"  {number} {facts_of(entry.condition)}: {job}, parent {entry.parent}, depth {entry.depth}")
-
-    follow(bay, table, plan.tree, Reading(0x02, 0x00), 0x02)
-    follow(bay, table, plan.tree, Reading(0x02, 0x08), 0x0A)
-    follow(bay, table, plan.tree, Reading(0x08, 0x00), 0x08)
+    table, plan = planned(bay, TRAILER, 0x02)
+    follow(bay, TRAILER, table, plan.tree, Reading(0x02, 0x00), 0x02)
+    follow(bay, TRAILER, table, plan.tree, Reading(0x02, 0x08), 0x0A)
+    follow(bay, TRAILER, table, plan.tree, Reading(0x08, 0x00), 0x08)
 
     for name, call in [
         ("a table that is cut", lambda: bay.read_table(table[:100])),
@@ -70,6 +101,10 @@ def main():
             call()
         except Refused as refused:
             print(f"{name}: refused {int(refused.refusal)} {refused.place}")
+
+    # Whether the trailer is on is not read at first: the tree asks for it where it matters.
+    table, plan = planned(bay, ONE_FACT_LESS, 0x01)
+    follow(bay, ONE_FACT_LESS, table, plan.tree, Reading(0x04, 0x01), 0x04)
 
 
 if __name__ == "__main__":

@@ -12,7 +12,7 @@ import unittest
 from ctypes import POINTER, c_size_t, c_uint16, c_uint32, c_uint64, c_void_p
 
 import bay as module
-from bay import Bay, Card, Entry, Header, Job, Plan, Reading, Refusal, Refused, ShiftPlan, Status, Tick
+from bay import Bay, Card, Entry, Header, Job, JobCommand, Plan, Reading, Refusal, Refused, ShiftPlan, Status, Tick
 
 JOBS = [
     Job(0x01, 0x02, 0x01, 300),
@@ -20,6 +20,14 @@ JOBS = [
     Job(0x01, 0x04, 0x00, 600),
     Job(0x02, 0x08, 0x00, 600),
     Job(0x0C, 0x10, 0x00, 150),
+]
+# The same with one fact less: "trailer off" is the absence of fact 0, "trailer on".
+PAIR_JOBS = [
+    Job(0x00, 0x01, 0x00, 300, absent=0x01, command=JobCommand.PAIRED_JOB),
+    Job(0x01, 0x00, 0x01, 240),
+    Job(0x00, 0x02, 0x00, 600, absent=0x01, command=JobCommand.PAIRED_JOB),
+    Job(0x01, 0x04, 0x00, 600),
+    Job(0x06, 0x08, 0x00, 150),
 ]
 LIBRARY = "target/libbay.so"
 
@@ -53,7 +61,9 @@ class Ranges(unittest.TestCase):
             yield lambda x: bay.write_table(1, [], x)
             yield lambda x: bay.newest_weaker([0, x], 0)
             yield lambda x: bay.newest_weaker([0], x)
-            for name in ("needs", "adds", "deletes"):
+            yield lambda x: bay.newest_weaker([0], 0, [0, x])
+            yield lambda x: bay.newest_weaker([0], 0, [0], x)
+            for name in ("needs", "absent", "adds", "deletes"):
                 yield lambda x, name=name: bay.write_table(1, [job, job._replace(**{name: x})], 0)
             for reading in (lambda x: Reading(x, 0), lambda x: Reading(0, x)):
                 yield lambda x, reading=reading: bay.plan(table, reading(x))
@@ -72,19 +82,21 @@ class Ranges(unittest.TestCase):
             for name in ("taken", "planned"):
                 yield lambda x, name=name: bay.report(table, card._replace(**{name: x}), 0, 0)
                 yield lambda x, name=name: bay.lateness(card._replace(**{name: x}))
+        if bits == 8:
+            yield lambda x: bay.write_table(1, [job, job._replace(command=x)], 0)
         if bits == 16:
             yield lambda x: bay.write_table(1, [job, job._replace(seconds=x)], 0)
             yield lambda x: bay.report(table, card._replace(reports=x), 0, 0)
 
     def test_outside(self):
-        for bits in (16, 32, 64):
+        for bits in (8, 16, 32, 64):
             for call in self.calls(bits):
                 for value in (-1, -(1 << 63), 1 << bits, (1 << bits) + 3, 1 << 200):
                     with self.assertRaises(ValueError):
                         call(value)
 
     def test_no_numbers(self):
-        for bits in (16, 32, 64):
+        for bits in (8, 16, 32, 64):
             for call in self.calls(bits):
                 for value in (2.0, "3", None, b"4", [5]):
                     with self.assertRaises(TypeError):
@@ -119,10 +131,13 @@ class Interface(unittest.TestCase):
 
     def names(self, enumeration):
         body = re.search(r"enum %s \{(.*?)\};" % enumeration, self.header, re.S).group(1)
-        return {name: int(number) for name, number in re.findall(r"BAY_(\w+) = (\d+)", body)}
+        return {name: int(number, 0) for name, number in re.findall(r"BAY_(\w+) = (\w+)", body)}
 
     def test_refusals(self):
         self.assertEqual({refusal.name: refusal.value for refusal in Refusal}, self.names("bay_refusal"))
+
+    def test_job_commands(self):
+        self.assertEqual({command.name: command.value for command in JobCommand}, self.names("bay_job_command"))
 
     def test_statuses(self):
         names = self.names("bay_status")
@@ -131,7 +146,7 @@ class Interface(unittest.TestCase):
 
     def test_constants(self):
         constants = dict(re.findall(r"#define BAY_(\w+) (\d+)", self.header))
-        self.assertGreaterEqual(len(constants), 7)
+        self.assertGreaterEqual(len(constants), 8)
         for name, number in constants.items():
             self.assertEqual(getattr(module, name), int(number))
 
@@ -153,21 +168,26 @@ class Interface(unittest.TestCase):
             self.assertEqual(parameters, module._PARAMETERS[name], name)
 
 
-class Calls(unittest.TestCase):
-    """Document 01's trailer, through every function."""
-
+class Library(unittest.TestCase):
     def setUp(self):
         self.bay = Bay(LIBRARY)
-        self.table = self.bay.write_table(5, JOBS, 0x10)
 
     def refused(self, refusal, place, call, *arguments, **named):
         with self.assertRaises(Refused) as caught:
             call(*arguments, **named)
         self.assertEqual((caught.exception.refusal, caught.exception.place), (refusal, place))
 
+
+class Calls(Library):
+    """Document 01's trailer, through every function."""
+
+    def setUp(self):
+        super().setUp()
+        self.table = self.bay.write_table(5, JOBS, 0x10)
+
     def test_tables(self):
         self.assertEqual(len(self.table), 147)
-        self.assertEqual(self.bay.read_table(self.table), Header(facts=5, jobs=5, goal=0x10))
+        self.assertEqual(self.bay.read_table(self.table), Header(facts=5, jobs=5, goal=0x10, paired=False))
         self.assertEqual([self.bay.read_job(self.table, number) for number in range(5)], JOBS)
         self.refused(Refusal.TABLE_CUT, 146, self.bay.read_table, self.table[:146])
         self.refused(Refusal.BYTES_AFTER_TABLE, 147, self.bay.read_table, self.table + b"?")
@@ -179,7 +199,9 @@ class Calls(unittest.TestCase):
             self.refused(Refusal.FACT_COUNT_OUT_OF_RANGE, 0, self.bay.write_table, facts, JOBS, 0x10)
         self.refused(Refusal.JOB_TOO_LONG, 2, self.bay.write_table, 5, [JOBS[0]._replace(seconds=5401)], 0x10)
         self.refused(Refusal.TOO_MANY_JOBS, 2 + 27 * 128, self.bay.write_table, 5, JOBS * 26, 0x10)
-        self.assertEqual(len(self.bay.write_table(5, (JOBS * 26)[:128], 0x10)), module.MAX_TABLE_BYTES)
+        self.assertEqual(len(self.bay.write_table(5, (JOBS * 26)[:128], 0x10)), 3468)
+        wider = [job._replace(command=JobCommand.PAIRED_JOB) for job in JOBS]
+        self.assertEqual(len(self.bay.write_table(5, (wider * 26)[:128], 0x10)), module.MAX_TABLE_BYTES)
 
     def test_plans(self):
         plan = self.bay.plan(self.table, Reading(held=0x02))
@@ -191,6 +213,7 @@ class Calls(unittest.TestCase):
         self.assertIsInstance(shift, ShiftPlan)
         self.assertEqual((len(shift.entries), len(shift.tree)), (9, 125))
         self.assertEqual(shift.entries[:8], plan.entries)
+        self.assertEqual((plan.paired, shift.paired), (False, False))
         self.refused(Refusal.BAD_READING, 0, self.bay.plan, self.table, Reading(0x20))
         self.refused(Refusal.START_UNREAD, 0, self.bay.plan, self.table, Reading(0x02, 0x08))
         self.refused(Refusal.NO_WAY, 9, self.bay.plan, self.table, Reading(0x08))
@@ -204,6 +227,13 @@ class Calls(unittest.TestCase):
         self.assertEqual([self.bay.newest_weaker(listed[:n], 0x03) for n in range(6)], [None, 0, 1, 1, 3, 3])
         self.assertIsNone(self.bay.newest_weaker(listed, 0x08))
         self.assertEqual(self.bay.newest_weaker([1 << 63, 0], 1 << 63), 1)
+        # Second masks: of all entries, of the first three, of more than there are.
+        second = [0x00, 0x10, 0x00, 0x10, 0x00]
+        self.assertEqual(self.bay.newest_weaker(listed, 0x03, second), 0)
+        self.assertEqual(self.bay.newest_weaker(listed, 0x03, second, 0x30), 3)
+        self.assertEqual(self.bay.newest_weaker(listed, 0x03, second[:3]), 3)
+        self.assertEqual(self.bay.newest_weaker(listed[:2], 0x03, second), 0)
+        self.assertIsNone(self.bay.newest_weaker(listed, 0x01, second))
 
     def test_ticks(self):
         tree = self.bay.plan(self.table, Reading(0x02)).tree
@@ -237,6 +267,53 @@ class Calls(unittest.TestCase):
             self.refused(Refusal.NO_SUCH_JOB, 0, self.bay.report, self.table, card, number, 60)
         self.refused(Refusal.NEED_NOT_HELD, 0, self.bay.report, self.table, card, 0, 60)
         self.refused(Refusal.CARD_EXHAUSTED, 0, self.bay.report, self.table, card._replace(reports=65535), 3, 60)
+
+
+class Pairs(Library):
+    """The trailer with one fact less, through every function that it changes."""
+
+    def setUp(self):
+        super().setUp()
+        self.pairs = self.bay.write_table(4, PAIR_JOBS, 0x08)
+
+    def test_pair_tables(self):
+        self.assertEqual(len(self.pairs), 163)
+        self.assertEqual(self.bay.read_table(self.pairs), Header(facts=4, jobs=5, goal=0x08, paired=True))
+        self.assertEqual([self.bay.read_job(self.pairs, number) for number in range(5)], PAIR_JOBS)
+        # One that needs nothing absent makes a table paired, too.
+        empty = self.bay.write_table(5, [JOBS[0]._replace(command=JobCommand.PAIRED_JOB)], 0x10)
+        self.assertEqual((len(empty), self.bay.read_table(empty).paired), (47, True))
+        contradictory = PAIR_JOBS[:1] + [PAIR_JOBS[2]._replace(needs=0x01)]
+        self.refused(Refusal.NEEDS_CONTRADICT, 37, self.bay.write_table, 4, contradictory, 0x08)
+        for job in (JOBS[0]._replace(absent=1), JOBS[0]._replace(command=0x22), JOBS[0]._replace(command=0)):
+            self.refused(Refusal.UNWRITABLE, 1, self.bay.write_table, 300, [JOBS[0], job], 0x10)
+
+    def test_pair_plans(self):
+        plan = self.bay.plan(self.pairs, Reading(held=0x01))
+        self.assertEqual((len(plan.entries), len(plan.tree), plan.way_jobs, plan.way_minutes), (7, 153, 4, 26))
+        self.assertTrue(plan.paired)
+        self.assertEqual(plan.entries[0], Entry(condition=0x08, job=None, parent=0, depth=0))
+        self.assertEqual(plan.entries[2], Entry(condition=0x04, job=2, parent=1, depth=2, absent=0x01))
+        shift = self.bay.plan_shift(self.pairs)
+        self.assertEqual((len(shift.entries), len(shift.tree), shift.paired), (8, 175, True))
+        self.assertEqual(shift.entries[7], Entry(condition=0, job=2, parent=5, depth=4, absent=0x01))
+        self.refused(Refusal.LIST_FULL, 6, self.bay.plan, self.pairs, Reading(0x01), most_entries=6)
+        self.refused(Refusal.TREE_TOO_SHORT, 7, self.bay.plan, self.pairs, Reading(0x01), most_tree_bytes=152)
+        for reading, tick in [
+            (Reading(0x01), Tick(Status.RUNNING, job=3)),
+            (Reading(0x04), Tick(Status.RUNNING, job=2)),
+            (Reading(0x04, 0x01), Tick(Status.UNSETTLED, to_read=0x01)),
+            (Reading(0x00), Tick(Status.FAILURE)),
+            (Reading(0x08, 0x07), Tick(Status.SUCCESS)),
+        ]:
+            self.assertEqual(self.bay.tick(self.pairs, plan.tree, reading), tick)
+
+    def test_pair_cards(self):
+        for reading in (Reading(0x01), Reading(0x00, 0x01)):
+            card = self.bay.open(self.pairs, reading)
+            self.refused(Refusal.NEED_NOT_HELD, 0, self.bay.report, self.pairs, card, 0, 300)
+        card = self.bay.report(self.pairs, self.bay.open(self.pairs, Reading(0x00)), 0, 300)
+        self.assertEqual(card, Card(held=0x01, unread=0, reports=1, taken=300, planned=300))
 
 
 def main():
