@@ -15,7 +15,7 @@ count() {
         sed -n 's/.*Collected : \([0-9]*\).*/\1/p'
 }
 
-printf '%-18s %-11s %16s %16s\n' case side instructions 'library / side'
+printf '%-20s %-11s %16s %16s\n' case side instructions 'library / side'
 "$program" --list | while read -r case side; do
     # A plan is long enough that what the first call alone does is nothing beside it.
     case $case in
@@ -28,5 +28,5 @@ printf '%-18s %-11s %16s %16s\n' case side instructions 'library / side'
     if [ "$side" = library ]; then
         library=$instructions
     fi
-    printf '%-18s %-11s %16s %16s\n' "$case" "$side" "$instructions" "$(awk "BEGIN { printf \"%.2f\", $library / $instructions }")"
+    printf '%-20s %-11s %16s %16s\n' "$case" "$side" "$instructions" "$(awk "BEGIN { printf \"%.2f\", $library / $instructions }")"
 done

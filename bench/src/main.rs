@@ -12,7 +12,8 @@ mod tight;
 use std::hint::black_box;
 use std::time::Instant;
 
-use bay_tests::engine::{self, Job, Lent, Status};
+use bay_tests::engine::{self, Job, Lent, Status, MOST_ENTRIES, MOST_PAIR_ENTRIES};
+use bay_tests::make::{self, Jobs};
 use bay_tests::trailer;
 
 /// One way to do a case. It gives a number made of its answer, by which the sides are compared.
@@ -31,17 +32,24 @@ fn long_table(jobs: usize) -> (Vec<u8>, u64) {
     let job = |i: usize| {
         let fact = i % 12;
         let extra = if i < 12 { 0 } else { 1 << (24 + i % 40) };
-        Job { needs: 1 << (12 + fact) | extra, adds: 1 << fact, deletes: 0, seconds: 60 + i as u16 }
+        Job::plain(1 << (12 + fact) | extra, 1 << fact, 0, 60 + i as u16)
     };
     let jobs: Vec<Job> = (0..jobs).map(job).collect();
     (engine::table_bytes(64, &jobs, 0xfff), 0xfff000)
 }
 
+/// The same with every other job in need of its fact absent, and a start that meets the last of the 2,978 entries that such a list can have.
+fn long_pair_table(jobs: usize) -> (Vec<u8>, u64) {
+    let table = make::long_table(12, jobs - 12, Jobs::Paired);
+    let list = engine::expand(&table, None, MOST_ENTRIES).0;
+    (table.bytes(), make::long_state(&table, &list[MOST_PAIR_ENTRIES - 1]))
+}
+
 /// As with twelve jobs, and sixty more that need the goal itself: what they give has the goal for a part, the oldest entry of all.
 fn goal_needing_table() -> (Vec<u8>, u64) {
     let job = |i: usize| match i {
-        0..12 => Job { needs: 1 << (12 + i), adds: 1 << i, deletes: 0, seconds: 60 },
-        _ => Job { needs: 0xfff, adds: 1 << (12 + i % 12), deletes: 0, seconds: 60 },
+        0..12 => Job::plain(1 << (12 + i), 1 << i, 0, 60),
+        _ => Job::plain(0xfff, 1 << (12 + i % 12), 0, 60),
     };
     let jobs: Vec<Job> = (0..72).map(job).collect();
     (engine::table_bytes(24, &jobs, 0xfff), 0xfff000)
@@ -54,20 +62,16 @@ fn counter_table(bits: usize) -> (Vec<u8>, u64) {
     let job = |i: usize| {
         let lower_set: u64 = (0..i).map(set).sum();
         let lower_clear: u64 = (0..i).map(clear).sum();
-        Job { needs: clear(i) | lower_set, adds: set(i) | lower_clear, deletes: clear(i) | lower_set, seconds: 60 }
+        Job::plain(clear(i) | lower_set, set(i) | lower_clear, clear(i) | lower_set, 60)
     };
     let jobs: Vec<Job> = (0..bits).map(job).collect();
     let goal = (0..bits).map(set).sum();
     (engine::table_bytes(2 * bits as u8, &jobs, goal), (0..bits).map(clear).sum())
 }
 
-fn lent() -> Lent {
-    Lent::filled([4_096, 4_096, 4_096, 4_096, 65_535], 0)
-}
-
 fn plan_case((table, start): (Vec<u8>, u64)) -> Vec<Side> {
-    let (library_table, mut library_lent) = (table.clone(), lent());
-    let mut rust_lent = lent();
+    let (library_table, mut library_lent) = (table.clone(), Lent::full());
+    let mut rust_lent = Lent::full();
     vec![
         side("library", move || {
             let answer = ffi::plan(&library_table, start, 0, &mut library_lent);
@@ -92,7 +96,7 @@ fn status_word(status: Status) -> u64 {
 
 /// A tick that reads every condition: the last entry is the one that is met.
 fn tick_case(table: Vec<u8>, start: u64) -> Vec<Side> {
-    let mut planned_lent = lent();
+    let mut planned_lent = Lent::full();
     let planned = engine::plan(&table, start, 0, &mut planned_lent).expect("a plan");
     let tree = planned_lent.tree[..planned.tree_bytes].to_vec();
     let (t1, t2, t3) = (table.clone(), table.clone(), table.clone());
@@ -125,15 +129,20 @@ fn table_case(table: Vec<u8>) -> Vec<Side> {
 }
 
 /// The cases and what builds them: only what is asked for is built.
-const CASES: [(&str, fn() -> Vec<Side>); 8] = [
+const CASES: [(&str, fn() -> Vec<Side>); 13] = [
     ("plan_12_jobs", || plan_case(long_table(12))),
     ("plan_72_jobs", || plan_case(long_table(72))),
     ("plan_128_jobs", || plan_case(long_table(128))),
     ("plan_oldest_part", || plan_case(goal_needing_table())),
+    ("plan_12_pair_jobs", || plan_case(long_pair_table(12))),
+    ("plan_72_pair_jobs", || plan_case(long_pair_table(72))),
+    ("plan_128_pair_jobs", || plan_case(long_pair_table(128))),
     ("tick_8_entries", || tick_case(trailer::table(), 0x02)),
     ("tick_4096_entries", || tick_case(counter_table(12).0, counter_table(12).1)),
+    ("tick_2978_pairs", || tick_case(make::pair_counter_table(12, 2_976, 60).bytes(), 0)),
     ("table_5_jobs", || table_case(trailer::table())),
     ("table_128_jobs", || table_case(long_table(128).0)),
+    ("table_128_pair_jobs", || table_case(long_pair_table(128).0)),
 ];
 
 /// Nanoseconds of one call: the least of several rounds, each long enough to be measured.
@@ -158,7 +167,7 @@ fn shown(nanoseconds: f64) -> String {
 fn measure_all() {
     const ROUNDS: usize = 7;
     const ROUND_NANOSECONDS: f64 = 4e7;
-    println!("{:<18} {:<11} {:>11} {:>16}", "case", "side", "time", "library / side");
+    println!("{:<20} {:<11} {:>11} {:>16}", "case", "side", "time", "library / side");
     for (name, make) in CASES {
         let mut sides = make();
         let answers: Vec<u64> = sides.iter_mut().map(|side| (side.call)()).collect();
@@ -175,7 +184,7 @@ fn measure_all() {
             }
         }
         for (side, time) in sides.iter().zip(&least) {
-            println!("{:<18} {:<11} {:>11} {:>16.2}", name, side.name, shown(*time), least[0] / time);
+            println!("{:<20} {:<11} {:>11} {:>16.2}", name, side.name, shown(*time), least[0] / time);
         }
     }
 }

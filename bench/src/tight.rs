@@ -6,6 +6,7 @@ pub struct Header {
     pub facts: u32,
     pub count: usize,
     pub goal: u64,
+    pub paired: bool,
 }
 
 fn refuse<T>(number: u64, place: usize) -> Result<T, Refusal> {
@@ -24,7 +25,55 @@ fn facts_beyond(facts: u32) -> u64 {
     }
 }
 
-/// Reads a table, stops 1 to 7 and 19.
+/// A job that needs facts absent has one mask more.
+const JOB_WIDTH: usize = 26;
+const PAIRED_JOB_WIDTH: usize = 34;
+
+struct JobOperands {
+    needs: u64,
+    absent: u64,
+    adds: u64,
+    deletes: u64,
+    seconds: u16,
+}
+
+/// The operands, of so many bytes, of the job at its command; None where they are cut.
+#[inline(always)]
+fn job_operands<const WIDTH: usize>(bytes: &[u8], at: usize) -> Option<JobOperands> {
+    let operands = bytes[at + 1..].first_chunk::<WIDTH>()?;
+    let effects = WIDTH - 18;
+    Some(JobOperands {
+        needs: u64_at(operands, 0),
+        absent: if WIDTH == PAIRED_JOB_WIDTH { u64_at(operands, 8) } else { 0 },
+        adds: u64_at(operands, effects),
+        deletes: u64_at(operands, effects + 8),
+        seconds: u16::from_le_bytes([operands[effects + 16], operands[effects + 17]]),
+    })
+}
+
+/// Judges a job that comes after `count` others, and gives where it ends.
+#[inline(always)]
+fn judge_job<const WIDTH: usize>(bytes: &[u8], at: usize, count: usize, beyond: u64) -> Result<usize, Refusal> {
+    let Some(job) = job_operands::<WIDTH>(bytes, at) else { return refuse(1, at) };
+    if count == 128 {
+        return refuse(4, at);
+    }
+    if (job.needs | job.absent | job.adds | job.deletes) & beyond != 0 {
+        return refuse(5, at);
+    }
+    if job.adds & (job.needs | job.deletes) != 0 {
+        return refuse(6, at);
+    }
+    if job.seconds > 5_400 {
+        return refuse(19, at);
+    }
+    if job.needs & job.absent != 0 {
+        return refuse(22, at);
+    }
+    Ok(at + 1 + WIDTH)
+}
+
+/// Reads a table, stops 1 to 7, 19 and 22.
 pub fn read_table(bytes: &[u8]) -> Result<Header, Refusal> {
     let length = bytes.len();
     if length < 2 {
@@ -39,24 +88,18 @@ pub fn read_table(bytes: &[u8]) -> Result<Header, Refusal> {
     }
     let beyond = facts_beyond(facts);
     let mut count = 0;
+    let mut paired = false;
     let mut at = 2;
-    while at < length && bytes[at] == 0x20 {
-        let Some(operands) = bytes[at + 1..].first_chunk::<26>() else { return refuse(1, at) };
-        if count == 128 {
-            return refuse(4, at);
-        }
-        let (needs, adds, deletes) = (u64_at(operands, 0), u64_at(operands, 8), u64_at(operands, 16));
-        if (needs | adds | deletes) & beyond != 0 {
-            return refuse(5, at);
-        }
-        if adds & (needs | deletes) != 0 {
-            return refuse(6, at);
-        }
-        if u16::from_le_bytes([operands[24], operands[25]]) > 5_400 {
-            return refuse(19, at);
-        }
+    while at < length {
+        at = match bytes[at] {
+            0x20 => judge_job::<JOB_WIDTH>(bytes, at, count, beyond)?,
+            0x21 => {
+                paired = true;
+                judge_job::<PAIRED_JOB_WIDTH>(bytes, at, count, beyond)?
+            }
+            _ => break,
+        };
         count += 1;
-        at += 27;
     }
     if at >= length {
         return refuse(1, length);
@@ -78,7 +121,7 @@ pub fn read_table(bytes: &[u8]) -> Result<Header, Refusal> {
     if at + 1 < length {
         return refuse(7, at + 1);
     }
-    Ok(Header { facts, count, goal })
+    Ok(Header { facts, count, goal, paired })
 }
 
 fn judge_reading(facts: u32, held: u64, unread: u64) -> Result<(), Refusal> {
@@ -88,6 +131,15 @@ fn judge_reading(facts: u32, held: u64, unread: u64) -> Result<(), Refusal> {
     Ok(())
 }
 
+/// The jobs of a table, read once.
+struct Jobs {
+    needs: [u64; 128],
+    absent: [u64; 128],
+    adds: [u64; 128],
+    deletes: [u64; 128],
+    seconds: [u16; 128],
+}
+
 /// Plans into the lent slices.
 pub fn plan(table: &[u8], held: u64, unread: u64, lent: &mut Lent) -> Result<Planned, Refusal> {
     let header = read_table(table)?;
@@ -95,19 +147,43 @@ pub fn plan(table: &[u8], held: u64, unread: u64, lent: &mut Lent) -> Result<Pla
     if unread != 0 {
         return refuse(9, 0);
     }
-    let (mut needs, mut adds, mut deletes) = ([0; 128], [0; 128], [0; 128]);
-    for job in 0..header.count {
-        let at = 2 + 27 * job;
-        needs[job] = u64_at(table, at + 1);
-        adds[job] = u64_at(table, at + 9);
-        deletes[job] = u64_at(table, at + 17);
+    let mut jobs = Jobs { needs: [0; 128], absent: [0; 128], adds: [0; 128], deletes: [0; 128], seconds: [0; 128] };
+    let mut at = 2;
+    for i in 0..header.count {
+        let (job, width) = if table[at] == 0x21 {
+            (job_operands::<PAIRED_JOB_WIDTH>(table, at), PAIRED_JOB_WIDTH)
+        } else {
+            (job_operands::<JOB_WIDTH>(table, at), JOB_WIDTH)
+        };
+        let job = job.expect("a sound table");
+        jobs.needs[i] = job.needs;
+        jobs.absent[i] = job.absent;
+        jobs.adds[i] = job.adds;
+        jobs.deletes[i] = job.deletes;
+        jobs.seconds[i] = job.seconds;
+        at += 1 + width;
     }
+    // One text of the loops; a table without 0x21 has none of the work on second masks.
+    if header.paired {
+        plan_jobs::<true>(&header, &jobs, held, lent)
+    } else {
+        plan_jobs::<false>(&header, &jobs, held, lent)
+    }
+}
+
+fn plan_jobs<const PAIRED: bool>(header: &Header, jobs: &Jobs, held: u64, lent: &mut Lent) -> Result<Planned, Refusal> {
     let lengths = [lent.conditions.len(), lent.jobs.len(), lent.parents.len(), lent.depths.len()];
-    let capacity = lengths.into_iter().fold(4_096, usize::min);
+    let mut capacity = lengths.into_iter().fold(if PAIRED { 2_978 } else { 4_096 }, usize::min);
+    if PAIRED {
+        capacity = capacity.min(lent.absences.len());
+    }
     if capacity == 0 {
         return refuse(10, 0);
     }
     lent.conditions[0] = header.goal;
+    if PAIRED {
+        lent.absences[0] = 0;
+    }
     lent.jobs[0] = 255;
     lent.parents[0] = 0;
     lent.depths[0] = 0;
@@ -119,14 +195,22 @@ pub fn plan(table: &[u8], held: u64, unread: u64, lent: &mut Lent) -> Result<Pla
                 return refuse(11, n);
             }
             let condition = lent.conditions[expanded];
+            let absence = if PAIRED { lent.absences[expanded] } else { 0 };
             for job in 0..header.count {
-                if adds[job] & condition == 0 || deletes[job] & condition != 0 {
+                let (adds, deletes) = (jobs.adds[job], jobs.deletes[job]);
+                let brings = adds & condition != 0 || PAIRED && deletes & absence != 0;
+                let undoes = deletes & condition != 0 || PAIRED && adds & absence != 0;
+                if !brings || undoes {
                     continue;
                 }
-                let new = needs[job] | (condition & !adds[job]);
+                let new = jobs.needs[job] | (condition & !adds);
+                let new_absence = if PAIRED { jobs.absent[job] | (absence & !deletes) } else { 0 };
+                if PAIRED && new & new_absence != 0 {
+                    continue;
+                }
                 let mut found = false;
-                for listed in lent.conditions[..n].iter().rev() {
-                    if listed & !new == 0 {
+                for (i, listed) in lent.conditions[..n].iter().enumerate().rev() {
+                    if listed & !new == 0 && (!PAIRED || lent.absences[i] & !new_absence == 0) {
                         found = true;
                         break;
                     }
@@ -138,42 +222,53 @@ pub fn plan(table: &[u8], held: u64, unread: u64, lent: &mut Lent) -> Result<Pla
                     return refuse(10, n);
                 }
                 lent.conditions[n] = new;
+                if PAIRED {
+                    lent.absences[n] = new_absence;
+                }
                 lent.jobs[n] = job as u8;
                 lent.parents[n] = expanded as u16;
                 lent.depths[n] = lent.depths[expanded] + 1;
                 n += 1;
-                if new & !held == 0 {
+                if new & !held == 0 && new_absence & held == 0 {
                     break 'expansion;
                 }
             }
             expanded += 1;
         }
     }
-    let tree_bytes = 14 * n - 1;
+    let condition_size = if PAIRED { 17 } else { 9 };
+    let entry_size = condition_size + 5;
+    let tree_bytes = entry_size * n - 1;
     if lent.tree.len() < tree_bytes {
         return refuse(12, n);
     }
     let tree = &mut lent.tree[..tree_bytes];
     tree[0] = 0x41;
     tree[1..3].copy_from_slice(&(n as u16).to_le_bytes());
-    tree[3] = 0x43;
-    tree[4..12].copy_from_slice(&lent.conditions[0].to_le_bytes());
+    let put_condition = |bytes: &mut [u8], i: usize| {
+        bytes[0] = if PAIRED { 0x45 } else { 0x43 };
+        bytes[1..9].copy_from_slice(&lent.conditions[i].to_le_bytes());
+        if PAIRED {
+            bytes[9..17].copy_from_slice(&lent.absences[i].to_le_bytes());
+        }
+    };
+    put_condition(&mut tree[3..], 0);
     for i in 1..n {
-        let entry = &mut tree[14 * i - 2..14 * i + 12];
-        entry[..4].copy_from_slice(&[0x42, 2, 0, 0x43]);
-        entry[4..12].copy_from_slice(&lent.conditions[i].to_le_bytes());
-        entry[12..].copy_from_slice(&[0x44, lent.jobs[i]]);
+        let at = entry_size * i - 2;
+        let entry = &mut tree[at..at + entry_size];
+        entry[..3].copy_from_slice(&[0x42, 2, 0]);
+        put_condition(&mut entry[3..], i);
+        entry[entry_size - 2..].copy_from_slice(&[0x44, lent.jobs[i]]);
     }
     tree[tree_bytes - 1] = 0x4f;
     let mut seconds = 0;
     let mut at = n - 1;
     while at != 0 {
-        let job = 2 + 27 * usize::from(lent.jobs[at]);
-        seconds += i64::from(u16::from_le_bytes([table[job + 25], table[job + 26]]));
+        seconds += i64::from(jobs.seconds[usize::from(lent.jobs[at])]);
         at = usize::from(lent.parents[at]);
     }
     let way_jobs = usize::from(lent.depths[n - 1]);
-    Ok(Planned { entries: n, tree_bytes, way_jobs, way_minutes: minutes(seconds) })
+    Ok(Planned { entries: n, tree_bytes, way_jobs, way_minutes: minutes(seconds), paired: PAIRED })
 }
 
 const SUCCESS: u8 = 0;
@@ -195,58 +290,74 @@ struct Walk<'a> {
     refusal: Refusal,
 }
 
+/// A command with its operand; the second one is a pair's.
+type Command = (u8, u64, u64);
+
 impl Walk<'_> {
     #[cold]
-    fn refuse(&mut self, number: u64, place: usize) -> Option<(u8, u64)> {
+    fn refuse(&mut self, number: u64, place: usize) -> Option<Command> {
         self.refusal = Refusal { number, place };
         None
     }
 
-    /// The command and operand at hand after the checks 13 to 15, and moves past them.
+    /// The command and operands at hand after the checks 13 to 15, and moves past them.
     #[inline(always)]
-    fn checked(&mut self, depth: usize) -> Option<(u8, u64)> {
+    fn checked(&mut self, depth: usize) -> Option<Command> {
         let at = self.at;
         let Some(&command) = self.bytes.get(at) else {
             return self.refuse(13, self.bytes.len());
         };
         let rest = &self.bytes[at + 1..];
-        let (operand, width) = match command {
+        let (operand, second, width, is_beyond) = match command {
             0x43 => match rest.first_chunk() {
-                Some(eight) => (u64::from_le_bytes(*eight), 8),
+                Some(eight) => {
+                    let mask = u64::from_le_bytes(*eight);
+                    (mask, 0, 8, mask & self.beyond != 0)
+                }
+                None => return self.refuse(13, at),
+            },
+            0x45 => match rest.first_chunk::<16>() {
+                Some(both) => {
+                    let (present, absent) = (u64_at(both, 0), u64_at(both, 8));
+                    (present, absent, 16, (present | absent) & self.beyond != 0)
+                }
                 None => return self.refuse(13, at),
             },
             0x44 => match rest.first() {
-                Some(one) => (u64::from(*one), 1),
+                Some(one) => (u64::from(*one), 0, 1, u64::from(*one) >= self.jobs),
                 None => return self.refuse(13, at),
             },
             0x41 | 0x42 => match rest.first_chunk() {
-                Some(two) => (u64::from(u16::from_le_bytes(*two)), 2),
+                Some(two) => {
+                    let children = u16::from_le_bytes(*two);
+                    if children == 0 || children > 4_096 {
+                        return self.refuse(13, at);
+                    }
+                    (u64::from(children), 0, 2, false)
+                }
                 None => return self.refuse(13, at),
             },
             _ => return self.refuse(13, at),
         };
-        if command <= 0x42 && (operand == 0 || operand > 4_096) {
-            return self.refuse(13, at);
-        }
         if depth > 16 {
             return self.refuse(14, at);
         }
-        if command == 0x43 && operand & self.beyond != 0 || command == 0x44 && operand >= self.jobs {
+        if is_beyond {
             return self.refuse(15, at);
         }
         self.at = at + 1 + width;
-        Some((command, operand))
+        Some((command, operand, second))
     }
 
     #[inline(always)]
-    fn leaf(&mut self, command: u8, operand: u64) -> u8 {
+    fn leaf(&mut self, (command, operand, second): Command) -> u8 {
         if command == 0x44 {
             self.value = operand;
             RUNNING
-        } else if operand & !(self.held | self.unread) != 0 {
+        } else if operand & !(self.held | self.unread) != 0 || second & self.held != 0 {
             FAILURE
-        } else if operand & self.unread != 0 {
-            self.value = operand & self.unread;
+        } else if (operand | second) & self.unread != 0 {
+            self.value = (operand | second) & self.unread;
             UNSETTLED
         } else {
             SUCCESS
@@ -257,8 +368,8 @@ impl Walk<'_> {
     fn node(&mut self, depth: usize, ticked: bool) -> u8 {
         match self.checked(depth) {
             None => REFUSED,
-            Some((command, children)) if command <= 0x42 => self.row(command, children, depth + 1, ticked),
-            Some((command, operand)) if ticked => self.leaf(command, operand),
+            Some((command, children, _)) if command <= 0x42 => self.row(command, children, depth + 1, ticked),
+            Some(leaf) if ticked => self.leaf(leaf),
             Some(_) => SUCCESS,
         }
     }
@@ -290,15 +401,15 @@ impl Walk<'_> {
         let mut decided = NOTHING;
         let mut answer = SUCCESS;
         loop {
-            let Some((command, operand)) = self.checked(open + 1) else { return REFUSED };
-            if command <= 0x42 {
-                commands[open] = command;
-                left[open] = operand;
+            let Some(node) = self.checked(open + 1) else { return REFUSED };
+            if node.0 <= 0x42 {
+                commands[open] = node.0;
+                left[open] = node.1;
                 open += 1;
                 continue;
             }
             if decided == NOTHING {
-                answer = self.leaf(command, operand);
+                answer = self.leaf(node);
             }
             loop {
                 if open == 0 {
