@@ -89,7 +89,9 @@ pub extern "C" fn bay_plan_shift(
     answer: &mut [u64; 4],
 ) -> u64
     ensures { λ r. ⌜ ShiftAnswered (now (table .entry))
-        (planShift (now (table .entry)) (room (columns (now (conditions .entry)) (now (absences .entry)) (now (jobs .entry)) (now (parents .entry)) (now (depths .entry)))) (length (now (tree .entry))))
+        (planShift (now (table .entry))
+        (room (columns (now (conditions .entry)) (now (absences .entry)) (now (jobs .entry)) (now (parents .entry)) (now (depths .entry))))
+        (length (now (tree .entry))))
         (columns (now (conditions .entry)) (now (absences .entry)) (now (jobs .entry)) (now (parents .entry)) (now (depths .entry)))
         (columns (now (conditions .exit)) (now (absences .exit)) (now (jobs .exit)) (now (parents .exit)) (now (depths .exit)))
         (now (tree .entry)) (now (tree .exit)) (now (answer .exit)) r ⌝ }

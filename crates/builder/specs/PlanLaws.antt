@@ -18,7 +18,7 @@ use Rattle.conditions.specs.declared.Condition.{Condition}
 use Rattle.conditions.specs.Condition.{plain}
 use Rattle.table.specs.Table.{Table}
 use Rattle.planning.specs.Expansion.{Entry, Outcome, exhausted, covered, full, entries}
-use Rattle.planning.specs.Columns.{entryAt}
+use Rattle.planning.specs.Columns.{maxEntries, entryAt}
 use Rattle.planning.specs.Facts.{Actions, factPlan}
 use Rattle.expander.specs.declared.Expanded.{Expanded}
 use Rattle.expander.specs.declared.Expanded.the-variants as X
@@ -27,7 +27,6 @@ use Rattle.expander.specs.declared.Until.the-variants as U
 use Rattle.expander.specs.Expands.{Columns, columns, capacityOf, Unlent, endedBy, over, written, room, held, planIn, expandedOf, listedBy, Expands}
 use Rattle.expander.specs.ExpandsLaws.{capacity-most, capacity-pairs, stored, list-held, list-length, held-length, stored-small, exhausted-some, covered-some, over-long}
 use Rattle.flat.specs.TreeBytes.{treeBytes, treeEntries}
-use Rattle.flat.specs.FlatTree.{maxEntries}
 use Rattle.flat.specs.FlatTreeLaws.{tree-columns}
 use Rattle.builder.specs.declared.Size.{Size}
 use Rattle.builder.specs.Plan.{tableActions, pairs, ifPaired, Plan, noPlan, listOnly, listAndTree, withTree, finishedBy, planBy, tablePlan, sizeOf, WritesTree, WritesPlan}

@@ -28,6 +28,7 @@ use Rattle.table.specs.Table.{Table}
 use Rattle.table.specs.Read.{readTable}
 use Rattle.table.specs.RoundTripLaws.{read-sound}
 use Rattle.planning.specs.Domain.{Domain}
+use Rattle.planning.specs.Columns.{maxEntries}
 use Rattle.planning.specs.Listing.{Good}
 use Rattle.planning.specs.Expansion.{Entry, Outcome, exhausted, covered, full, entries, root, entryIn, listing}
 use Rattle.planning.specs.Demand.{CoveredBy, tickList, Fewest}
@@ -39,7 +40,7 @@ use Rattle.tree.specs.Tick.{tickTree}
 use Rattle.tree.specs.TickBytes.{tickBytes, answered}
 use Rattle.runs.specs.Runs.{answerOfStatus, runAnswer, tickOn}
 use Rattle.flat.specs.TreeBytes.{treeBytes}
-use Rattle.flat.specs.FlatTree.{maxEntries, Each, Fits, treeOf}
+use Rattle.flat.specs.FlatTree.{Each, Fits, treeOf}
 use Rattle.flat.specs.FlatTreeLaws.{each-by-place, later-by-place}
 use Rattle.flat.specs.ReadBackLaws.{tick-read}
 use Rattle.flat.specs.FlatTickLaws.{tick-agrees, unsettled-differ, action-named, failure-iff}

@@ -1,4 +1,5 @@
-// The list of a sound table's goal and its tree, put into lent tables: what every plan is made of (document 01, "Expansion", stops 10 to 12).
+// The list of a sound table's goal and its tree, put into lent tables: what every plan is made of (document 01, "Expansion", stops 10 to 12;
+// document 02, W10).
 use expander::Expanded;
 use expander::Until;
 use refusal::Reason;
@@ -29,7 +30,7 @@ pub enum Built {
     Refused(Refusal),
 }
 
-// So many, where a job needs a fact absent: for a table without such jobs there are no second masks.
+// So many, for a table with a 0x21: for one without there are no second masks.
 fn if_paired(paired: bool, n: usize) -> usize
     ensures { λ r. ⌜ r ≡ ifPaired paired n ⌝ }
 {
@@ -140,7 +141,7 @@ fn fit_tree(
     })
 }
 
-// The list up to what ends it, and its tree, of a table that was read. No second masks are lent where it needs none.
+// The list up to what ends it, and its tree, of a table that was read. No second masks are lent where it has no 0x21.
 fn build_in(
     table: &[u8],
     header: Header,
@@ -178,8 +179,8 @@ fn build_in(
     }
 }
 
-// The same, in list tables of which the second masks are of no use to a table without such jobs: then they are neither counted nor written, however
-// many are lent.
+// The same, in list tables of which the second masks are of no use to a table without a 0x21: then they are neither counted nor written, however many
+// are lent.
 pub fn build(
     table: &[u8],
     header: Header,

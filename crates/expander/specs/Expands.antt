@@ -11,7 +11,7 @@ use Rattle.refusal.specs.Checked.{Checked, accepted, refused, andThen}
 use Rattle.conditions.specs.declared.Condition.{Condition}
 use Rattle.conditions.specs.Condition.{satisfied, actionAt}
 use Rattle.planning.specs.Expansion.{Entry, Outcome, exhausted, covered, full, entries}
-use Rattle.planning.specs.Columns.{entriesOf}
+use Rattle.planning.specs.Columns.{maxEntries, entriesOf}
 use Rattle.planning.specs.Facts.{Actions, factPlan}
 use Rattle.expander.specs.declared.Expanded.{Expanded}
 use Rattle.expander.specs.declared.Expanded.the-variants as X
@@ -29,7 +29,8 @@ actionsOf needs absent adds deletes =
     record { count = countOf (length needs) (length adds) (length deletes); action = actionAt needs absent adds deletes }
 
 -- ---- the lent list tables, as the five columns of a list of entries
--- `paired` says that some action needs a fact absent: "once the table has a 0x21 .. its list takes a further lent table for the second masks".
+-- `paired` says that there is a row of absent facts, though all its masks may be empty: "once the table has a 0x21 .. its list takes a further lent
+-- table for the second masks".
 
 pub record Columns : Type 0 where
   pub conditions : List ℕ
@@ -44,8 +45,8 @@ columns conditions absences actions parents depths =
 
 -- "Capacity is the shortest of the four lent list tables, and at most 4,096"; of a paired list it covers the further table, and is "at most 2,978"
 unfoldable pub capacityOf : Bool → ℕ → ℕ → ℕ → ℕ → ℕ → ℕ
-capacityOf false conditions absences actions parents depths = min (min (min conditions actions) (min parents depths)) 4096
-capacityOf true conditions absences actions parents depths = min (min (min (min conditions actions) (min parents depths)) absences) 2978
+capacityOf false conditions absences actions parents depths = min (min (min conditions actions) (min parents depths)) (maxEntries false)
+capacityOf true conditions absences actions parents depths = min (min (min (min conditions actions) (min parents depths)) absences) (maxEntries true)
 
 -- the capacity of the tables
 abbrev pub room : Columns → Bool → ℕ

@@ -32,7 +32,7 @@ pub const NO_ACTION: u8 = 255;
 
 const MAX_ENTRIES: usize = 4_096;
 
-// Where an action needs a fact absent.
+// Of a paired list: there is a row of absent facts.
 const MAX_PAIRS: usize = 2_978;
 
 const MAX_ACTIONS: usize = 128;
@@ -43,7 +43,7 @@ fn lesser(a: usize, b: usize) -> usize
     if a < b { a } else { b }
 }
 
-// How many entries fit the list tables, by their lengths. Where no action needs a fact absent, the second masks take no room.
+// How many entries fit the list tables, by their lengths. Where there is no row of absent facts, the second masks take no room.
 fn capacity_of(
     absent: usize,
     conditions: usize,
@@ -80,7 +80,7 @@ fn ends_list(until: Until, condition: Condition) -> bool
 
 // Lists the conditions from which the actions lead to the goal, nearest first, up to the first that ends the list.
 // Action a has its masks at a of `needs`, `absent`, `adds` and `deletes`; entry i stands at i of `conditions`, `absences`, `actions`, `parents` and
-// `depths`. Where `absent` is empty no action needs a fact absent, and no second masks are lent.
+// `depths`. Where `absent` is empty the list is not paired, and no second masks are lent.
 pub fn expand(
     needs: &[u64],
     absent: &[u64],

@@ -9,6 +9,7 @@ use lib.ListN.{length}
 use Rattle.conditions.specs.declared.Condition.{Condition}
 use Rattle.conditions.specs.Condition.{conditionWithin}
 use Rattle.planning.specs.Expansion.{Entry}
+use Rattle.planning.specs.Columns.{maxEntries}
 use Rattle.tree.specs.declared.Kind.the-variants.{Fallback, Sequence}
 use Rattle.tree.specs.declared.Leaf.the-variants as Leaf
 use Rattle.tree.specs.Tree.{Tree, Row, leaf, node, one, more}
@@ -51,11 +52,6 @@ Each P (x ∷ l) = P x × Each P l
 abbrev pub EachLater : (Entry Condition → Type 0) → List (Entry Condition) → Type 0
 EachLater P [] = Unit {0}
 EachLater P (x ∷ l) = Each P l
-
--- as many as a node has children; document 02, W10: "its capacity and W4's list are at most 2,978", so that its tree is no longer than a tree may be
-abbrev pub maxEntries : (paired : Bool) → ℕ
-maxEntries false = maxChildren
-maxEntries true = 2_978
 
 pub record Fits (paired : Bool) (facts jobs : ℕ) (l : List (Entry Condition)) : Type 0 where
   pub some : 1 ≤ length l

@@ -27,6 +27,7 @@ use Rattle.conditions.specs.Condition.{plain, conditionWithin}
 use Rattle.table.specs.Table.{Table}
 use Rattle.table.specs.Read.{readTable}
 use Rattle.planning.specs.Expansion.{Entry}
+use Rattle.planning.specs.Columns.{maxEntries}
 use Rattle.tree.specs.declared.Kind.{Kind}
 use Rattle.tree.specs.declared.Kind.the-variants.{Fallback, Sequence}
 use Rattle.tree.specs.declared.Leaf.the-variants as Leaf
@@ -39,7 +40,7 @@ use Rattle.tree.specs.TickBytes.{tickChecked, tickBytes}
 use Rattle.tree.specs.TickBytesLaws.{bytes-read}
 use Rattle.flat.specs.TreeBytes.{branchBytes, conditionBytes, actionBytes, endBytes, firstBytes, entryBytes, laterEntries, treeBytes, conditionAt, actionAt, pastEntry, rootConditionAt}
 use Rattle.flat.specs.TreeBytesLaws.{tree-length}
-use Rattle.flat.specs.FlatTree.{laterTree, rowFrom, rootTree, laterAt, treeOf, maxEntries, Each, Fits}
+use Rattle.flat.specs.FlatTree.{laterTree, rowFrom, rootTree, laterAt, treeOf, Each, Fits}
 
 -- ---- bytes that stand at an offset
 

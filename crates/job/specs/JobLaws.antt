@@ -117,7 +117,14 @@ module _ (s rest : List ℕ) (at : ℕ) where
         paired = sym p i;
       })
   read-by true j h p e =
-      rw (read-drop 8 s at OPERANDS-AT, read-drop 8 s at ABSENT-AT, read-drop 8 s at PAIRED-ADDS-AT, read-drop 8 s at (PAIRED-ADDS-AT + MASK-WIDTH), read-drop 2 s at (PAIRED-ADDS-AT + MASK-WIDTH + MASK-WIDTH), e)
+      rw (
+        read-drop 8 s at OPERANDS-AT,
+        read-drop 8 s at ABSENT-AT,
+        read-drop 8 s at PAIRED-ADDS-AT,
+        read-drop 8 s at (PAIRED-ADDS-AT + MASK-WIDTH),
+        read-drop 2 s at (PAIRED-ADDS-AT + MASK-WIDTH + MASK-WIDTH),
+        e,
+      )
       (λ i. record {
         needs = from-to 8 (j .needs) (h .needs-fit) i;
         absent = from-to 8 (j .absent) (h .absent-fit) i;

@@ -21,6 +21,7 @@ use Rattle.conditions.specs.Condition.{plain}
 use Rattle.table.specs.Table.{Table}
 use Rattle.table.specs.Read.{readTable}
 use Rattle.planning.specs.Domain.{Domain}
+use Rattle.planning.specs.Columns.{maxEntries}
 use Rattle.planning.specs.Sequence.{Answer}
 use Rattle.planning.specs.Listing.{path}
 use Rattle.planning.specs.PathLaws.{path-same, path-short}
@@ -37,7 +38,6 @@ use Rattle.expander.specs.ExpandsLaws.{over-long, over-at}
 use Rattle.builder.specs.declared.Size.{Size}
 use Rattle.tree.specs.TickBytes.{tickChecked, tickBytes}
 use Rattle.runs.specs.Runs.{runAnswer, tickOn}
-use Rattle.flat.specs.FlatTree.{maxEntries}
 use Rattle.builder.specs.Plan.{tableActions, tableDomain, pairs, noPlan, tablePlan, sizeOf, WritesPlan}
 use Rattle.builder.specs.PlanLaws.{columns-few, whole-told, listed-entries, plan-list, plan-paired, writes-other, writes-refused}
 use Rattle.builder.specs.WorksLaws.{list-works}

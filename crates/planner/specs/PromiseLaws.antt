@@ -20,6 +20,7 @@ use Rattle.numbers.specs.Numbers.{AreBytes}
 use Rattle.table.specs.Table.{Table}
 use Rattle.table.specs.Read.{readTable}
 use Rattle.planning.specs.Sequence.{Reaches}
+use Rattle.planning.specs.Columns.{maxEntries}
 use Rattle.planning.specs.Listing.{path}
 use Rattle.planning.specs.Expansion.{Outcome, entries, listing}
 use Rattle.planning.specs.Demand.{FirstIn}
@@ -28,7 +29,6 @@ use Rattle.planning.specs.FactLaws.{fact-start-first, fact-no-way}
 use Rattle.expander.specs.declared.Until.the-variants.{Covers}
 use Rattle.expander.specs.Expands.{Columns, room}
 use Rattle.runs.specs.Runs.{tickOn}
-use Rattle.flat.specs.FlatTree.{maxEntries}
 use Rattle.builder.specs.Plan.{tableActions, tableDomain, pairs, Plan, noPlan, planBy, tablePlan, afterChecks, WritesPlan}
 use Rattle.builder.specs.PlanLaws.{columns-few, plan-list, whole-told}
 use Rattle.builder.specs.Works.{FewestJobs, Irredundant, NoRoom}

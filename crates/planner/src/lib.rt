@@ -1,5 +1,5 @@
 // The plan for a vehicle: from a table's bytes and a start reading, the list of conditions, its tree, and the way with its time (document 01,
-// "Expansion" and "Job card", the table's stops and 8 to 12).
+// "Expansion" and "Job card", the table's stops and 8 to 12; document 02, W5 and W10).
 use builder::Built;
 use builder::Size;
 use expander::Until;

@@ -15,6 +15,7 @@ use Rattle.numbers.specs.Numbers.{AreBytes}
 use Rattle.table.specs.Table.{Table}
 use Rattle.table.specs.Read.{readTable}
 use Rattle.planning.specs.Sequence.{Reaches}
+use Rattle.planning.specs.Columns.{maxEntries}
 use Rattle.planning.specs.Expansion.{Entry, Outcome, exhausted, covered, full, entries}
 use Rattle.planning.specs.Demand.{CoveredBy}
 use Rattle.planning.specs.DemandLaws.{exhausted-nonempty}
@@ -22,7 +23,6 @@ use Rattle.planning.specs.Facts.{shiftPlan}
 use Rattle.planning.specs.FactLaws.{fact-plannable, fact-covered-iff, fact-unending}
 use Rattle.expander.specs.declared.Until.the-variants.{Never}
 use Rattle.expander.specs.Expands.{Columns, room, listedBy}
-use Rattle.flat.specs.FlatTree.{maxEntries}
 use Rattle.builder.specs.declared.Size.{Size}
 use Rattle.builder.specs.declared.Built.{Built}
 use Rattle.builder.specs.Plan.{tableActions, tableDomain, pairs, Plan, noPlan, planBy, tablePlan, sizeOf, builtOf, WritesPlan}

@@ -169,7 +169,9 @@ unfolding validatedFrom
 sound-from facts goal left js [] at l h g = rw (g, append-nil)
 sound-from facts goal zero js (k ∷ ks) at l h g = absurd (omega arith)
 sound-from facts goal (suc left) js (k ∷ ks) at l h g =
-    ap (λ r. andThen r λ j. validatedFrom facts goal left (js ++ (j ∷ [])) ks (at + jobSize k)) (sym (validated-sound facts at k (h 0 (omega arith) .in-range) (h 0 (omega arith) .apart) (h 0 (omega arith) .in-time) (h 0 (omega arith) .one-way)))
+    let k-sound = h 0 (omega arith) in
+    ap (λ r. andThen r λ j. validatedFrom facts goal left (js ++ (j ∷ [])) ks (at + jobSize k))
+    (sym (validated-sound facts at k (k-sound .in-range) (k-sound .apart) (k-sound .in-time) (k-sound .one-way)))
     ∙ sound-from facts goal left (js ++ (k ∷ [])) ks (at + jobSize k) (omega arith) (λ i m. h (suc i) (omega arith)) g
     ∙ rw append-assoc
 

@@ -1,4 +1,5 @@
-// The table writer: a table, given by its number of facts, the columns of its jobs and its goal, to bytes in a lent slice.
+// The table writer: a table, given by its number of facts, the columns of its jobs and its goal, to bytes in a lent slice (document 01, "Commands";
+// document 02, W10).
 use job::Job;
 use job::Validated;
 use refusal::Reason;

@@ -66,7 +66,8 @@ fn pass(live: bool, answer: Status, next: usize) -> Walk
     Walk::Passed(Status::Success, next)
 }
 
-// A leaf that was read at an offset, and ends before `next`; `live` says whether the tick still asks for its answer.
+// A leaf that was read at an offset, and ends before `next`; `live` says whether the tick still asks for its answer. Its kind is looked at once, before
+// the depth: it is quicker so, and the first stop is the same.
 fn tick_leaf(leaf: Leaf, at: usize, next: usize, depth: usize, live: bool, context: Context) -> Walk
     ensures { λ r. ⌜ walkOf r ≡ walkLeaf context at next depth live leaf ⌝ }
 {

@@ -1,4 +1,5 @@
--- The tree reader: from bytes to the tree, or to the number and place of the first stop (document 01, "Stops, in checking order", 13 to 15).
+-- The tree reader: from bytes to the tree, or to the number and place of the first stop (document 01, "Stops, in checking order", 13 to 15;
+-- document 02, W10).
 -- "In a tree, its length first, then nodes in byte order, then END." Within a node 13 comes before 14, and 14 before 15.
 -- Definitions only.
 use Prim.Native.Nat.{ℕ, zero, suc, _+_, _-_}

@@ -1,5 +1,5 @@
 // Behaviour trees in bytes: a node's command with its operands, with what stop 13 asks of a node by itself, and what a leaf answers (document 01,
-// "Commands", "Ticking" and "Stops, in checking order").
+// "Commands", "Ticking" and "Stops, in checking order"; document 02, W10).
 use conditions::Condition;
 use conditions::Evaluation;
 use reading::Reading;
