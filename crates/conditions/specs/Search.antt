@@ -3,7 +3,10 @@
 use mathlib.Core.Path.{_≡_}
 use mathlib.Core.List.{List}
 use mathlib.Core.Logic.{_↔_}
-use Prim.Native.Nat.{ℕ, zero, suc, _<_}
+use mathlib.Core.Bool.{true}
+use Prim.Native.Nat.{ℕ, zero, suc, _≤_, _<_}
+use lib.ListN.{getD}
+use Rattle.masks.specs.Sets.{intersects}
 use lib.Dec.{T}
 use Rattle.base.specs.Bools.{if_then_else_}
 use Rattle.conditions.specs.declared.Condition.{Condition}
@@ -16,6 +19,10 @@ unfoldable pub newestWeaker : List ℕ → List ℕ → ℕ → Condition → Fo
 newestWeaker conditions absences zero c = Nowhere
 newestWeaker conditions absences (suc k) c =
     if weaker (conditionAt conditions absences k) c then At k else newestWeaker conditions absences k c
+
+-- each of the masks from one place up to another has a fact of `others`
+abbrev pub Sharing : List ℕ → (others from to : ℕ) → Type 0
+Sharing masks others from to = (i : ℕ) → from ≤ i → i < to → intersects (getD masks i 0) others ≡ true
 
 -- ---- what an answer says
 

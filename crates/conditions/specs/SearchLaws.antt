@@ -1,24 +1,46 @@
 -- The search for a listed part, step by step, and what each answer says.
 -- Assumes nothing.
-use mathlib.Core.Bool.{Bool, true, false, _&&_}
+use mathlib.Core.Bool.{Bool, true, false, not, _&&_}
 use mathlib.Core.List.{List}
 use mathlib.Core.Path.{_≡_, refl, sym, _∙_}
 use native.Mathlib.Nat.{not-suc-le-zero}
 use native.Mathlib.Decide.{decLe}
 use native.Mathlib.Omega.{arith}
-use Prim.Native.Nat.{ℕ, zero, suc, _<_}
+use Prim.Native.Nat.{ℕ, zero, suc, _-_, _^_, _≤_, _<_}
 use lib.Dec.{T}
 use lib.ListN.{getD}
 use Rattle.base.specs.Bools.{holds}
-use Rattle.masks.specs.Sets.{subset}
+use Rattle.masks.specs.Sets.{subset, intersects, others}
+use Rattle.masks.specs.Laws.{part-others}
 use Rattle.conditions.specs.declared.Condition.{Condition}
 use Rattle.conditions.specs.declared.Found.{Found}
 use Rattle.conditions.specs.declared.Found.the-variants.{At, Nowhere}
 use Rattle.conditions.specs.Condition.{weaker, conditionAt}
-use Rattle.conditions.specs.Search.{newestWeaker, Newest, Searches}
+use Rattle.conditions.specs.Search.{newestWeaker, Sharing, Newest, Searches}
 
 pub found-nowhere : {k : ℕ} → At k ≡ Nowhere → ⊥
 found-nowhere e = let z : _≡_ {A = ℕ} 0 1 = cc in omega arith
+
+turned : (b : Bool) → not b ≡ true → b ≡ false
+turned true e = sym e
+turned false e = refl
+
+-- four masks, one by one
+pub four-sharing : (masks : List ℕ) (others k : ℕ) → 4 ≤ k → intersects (getD masks (k - 1) 0) others ≡ true → intersects (getD masks (k - 2) 0) others ≡ true
+    → intersects (getD masks (k - 3) 0) others ≡ true → intersects (getD masks (k - 4) 0) others ≡ true → Sharing masks others (k - 4) k
+four-sharing masks others k l a b c d i m h =
+    elim (decLe (k - 1) i) [
+      | yes p ↦ let e : i ≡ k - 1 = omega arith in rw e a
+      | no p ↦
+          elim (decLe (k - 2) i) [
+            | yes q ↦ let e : i ≡ k - 2 = omega arith in rw e b
+            | no q ↦
+                elim (decLe (k - 3) i) [
+                  | yes r ↦ let e : i ≡ k - 3 = omega arith in rw e c
+                  | no r ↦ let e : i ≡ k - 4 = omega arith in rw e d
+                ]
+          ]
+    ]
 
 module _ (conditions absences : List ℕ) (c : Condition) where
   -- ---- the steps
@@ -54,6 +76,19 @@ module _ (conditions absences : List ℕ) (c : Condition) where
     pub newest-other : weaker (conditionAt conditions absences k) c ≡ false → newestWeaker conditions absences k c ≡ newestWeaker conditions absences (suc k) c
     unfolding newestWeaker
     newest-other e = rw e
+
+  -- masks that have facts which the condition does not want held are no parts, and are passed over
+  pub passed-over : (n k : ℕ) → ((i : ℕ) → getD conditions i 0 < 2 ^ 64) → k ≤ n → Sharing conditions (others (c .present)) k n
+      → newestWeaker conditions absences k c ≡ newestWeaker conditions absences n c
+  passed-over zero k fits l h = let e : k ≡ 0 = omega arith in rw e
+  passed-over (suc n) k fits l h =
+      elim (decLe k n) [
+        | yes m ↦ passed-over n k fits m (λ i a b. h i a (omega arith)) ∙ newest-other n (first-other n (no-part (h n m (omega arith))))
+        | no m ↦ let e : k ≡ suc n = omega arith in rw e
+      ]
+    where
+      no-part : intersects (getD conditions n 0) (others (c .present)) ≡ true → subset (getD conditions n 0) (c .present) ≡ false
+      no-part e = turned _ (sym (part-others (getD conditions n 0) (c .present) (fits n)) ∙ e)
 
   -- ---- the answers
 

@@ -2,10 +2,12 @@
 // this crate and the table looks into an action or a condition. An action is document 01's job, without its seconds.
 use reading::Reading;
 ghost use mathlib.Core.Path.{_≡_};
-ghost use Prim.Native.Nat.{_≤_};
+ghost use mathlib.Core.Bool.{true};
+ghost use Prim.Native.Nat.{_-_, _≤_};
 ghost use lib.ListN.{length, getD, set};
 ghost use Rattle.conditions.specs.Condition.{consistent, conditionWithin, satisfied, relevant, regressed, conditionAt, actionAt};
-ghost use Rattle.conditions.specs.Search.{Searches};
+ghost use Rattle.masks.specs.Sets.{others};
+ghost use Rattle.conditions.specs.Search.{Sharing, Searches};
 ghost use Rattle.conditions.specs.OnReading.{evaluated, applicable, finished};
 
 // The facts that are to hold, and those that are to be absent.
@@ -90,21 +92,54 @@ pub enum Found {
     Nowhere,
 }
 
-// The newest of the first n listed conditions that is a part of `c` (document 02, W6). A first mask fits where it has none of the facts that `c` does
-// not want held; the second column is looked at only there.
+// Have the four masks before k each a fact of `others`?
+fn four_share(conditions: &[u64], k: usize, others: u64) -> bool
+    requires { ⌜ (4 ≤ k) × (k ≤ length (now conditions)) ⌝ }
+    ensures { λ r. ⌜ (r ≡ true → Sharing (now (conditions .entry)) others (k - 4) k) ⌝ }
+{
+    if !masks::share_fact(conditions[k - 1], others) {
+        return false;
+    }
+    if !masks::share_fact(conditions[k - 2], others) {
+        return false;
+    }
+    if !masks::share_fact(conditions[k - 3], others) {
+        return false;
+    }
+    masks::share_fact(conditions[k - 4], others)
+}
+
+// Where the search for parts of a mask goes on: from there to n no mask is one. They are looked at four at a time, since most are none: each has a fact
+// that is not among the mask's.
+fn past_others(conditions: &[u64], n: usize, mask: u64) -> usize
+    requires { ⌜ n ≤ length (now conditions) ⌝ }
+    ensures { λ r. ⌜ (r ≤ n) × Sharing (now (conditions .entry)) (others mask) r n ⌝ }
+{
+    let others = masks::others(mask);
+    let mut k = n;
+    while k >= 4 {
+        if !four_share(conditions, k, others) {
+            return k;
+        }
+        k -= 4;
+    }
+    k
+}
+
+// The newest of the first n listed conditions that is a part of `c` (document 02, W6). The second column is looked at only where the first mask
+// fits.
 pub fn newest_weaker(conditions: &[u64], absences: &[u64], n: usize, c: Condition) -> Found
     requires { ⌜ n ≤ length (now conditions) ⌝ }
     ensures { λ r. ⌜ Searches (now (conditions .entry)) (now (absences .entry)) n c r ⌝ }
 {
-    let others = masks::others(c.present);
-    let mut k = n;
+    let mut k = past_others(conditions, n, c.present);
     'search: loop {
         if k == 0 {
             break Found::Nowhere;
         }
         k -= 1;
         let present = conditions[k];
-        if !masks::share_fact(present, others) {
+        if masks::is_subset(present, c.present) {
             let absent = mask_at(absences, k);
             if masks::is_subset(absent, c.absent) {
                 break Found::At(k);
