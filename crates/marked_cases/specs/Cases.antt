@@ -46,7 +46,7 @@ summary = summaryBy false
 abbrev size : ℕ → ℕ → Checked Size
 size = sizeBy false
 
--- so many entries, of either kind
+-- so many entries, of either kind: how many fit lent tables is `capacityOf`'s, which the printed texts go by
 abbrev pub lists : ℕ → Bool → ℕ
 lists n paired = n
 
@@ -209,7 +209,7 @@ pairPlans =
     ∷ (shiftOf oneFactLessBytes 2978 all is shift (sizeBy true 8 175) lessWhole)
     -- a 0x21 without absent facts: "used by the planner once the table has a 0x21"
     ∷ (planOf (tableBytes withPair) 0x02 2978 all is plan (summaryBy true 8 175 4 26) (take 8 whole))
-    -- a dead line, which W10 allows "for tables" with a 0x21: who meets the last entry meets one before it
+    -- a dead line: who meets the last entry meets one before it, and "absence of dead lines" is "for tables without 0x21"
     ∷ (shiftOf (tableBytes deadLine) 2978 all is shift (sizeBy true 3 65) (pair 0x03 0x00 255 0 0 ∷ pair 0x00 0x01 0 0 1 ∷ pair 0x02 0x00 1 0 1 ∷ []))
     ∷ []
 

@@ -1,6 +1,6 @@
 -- The workshop's checklist, on the trailer's table and on that with one fact less: what each of the 243 readings of five facts gives on P1's tree, and
 -- each of the 81 of four on the other's. The theorems behind it hold of every table (`planner`, Promise.antt); here they are seen on these.
--- Definitions only; Computed.antt computes them.
+-- Definitions only; Computed.antt and PairsComputed.antt compute them.
 use Prim.Native.Nat.{ℕ, zero, suc, _+_, _*_, _^_}
 use mathlib.Core.Bool.{Bool, true, false, not, _&&_, _||_}
 use mathlib.Core.List.{List, [], _∷_, _++_, map}

@@ -57,7 +57,7 @@ fn fixed_cases() -> Vec<Case> {
             cases.push(case(&format!("table_cut_{length}"), &table[..length], &start));
         }
     }
-    for extra in [1, 2, 3_000, 3_321, 3_322, 5_000, 65_536, 1_000_000] {
+    for extra in [1, 2, 3_000, 4_345, 4_346, 4_370, 4_371, 5_000, 65_536, 1_000_000] {
         let longer = [table.clone(), vec![END_OF_TABLE; extra]].concat();
         cases.push(case(&format!("table_longer_by_{extra}"), &longer, &start));
     }
