@@ -8,15 +8,12 @@ use Rattle.refusal.specs.Checked.{accepted}
 use Rattle.reading.specs.declared.Reading.{Reading}
 use Rattle.tree.specs.TickBytes.{tickBytes, answered, isSettled, Settled}
 use Rattle.tree.specs.declared.Status.{Status}
-use Rattle.tree.specs.declared.Status.the-variants.{Success, Failure, Running, Unsettled}
+use Rattle.tree.specs.StatusNumbers.{statusNumber, statusValue}
 use Rattle.bay_words.specs.Words.{words, Answered}
 
--- BAY_SUCCESS, BAY_FAILURE, BAY_RUNNING and BAY_UNSETTLED
+-- the status, and the job or mask that comes with it
 abbrev pub statusWords : Status → List ℕ
-statusWords Success = 0 ∷ 0 ∷ []
-statusWords Failure = 1 ∷ 0 ∷ []
-statusWords (Running job) = 2 ∷ job ∷ []
-statusWords (Unsettled mask) = 3 ∷ mask ∷ []
+statusWords a = statusNumber a ∷ statusValue a ∷ []
 
 -- what a tick promises: the definition's answer, and Success, Failure or Running only where it is settled
 pub record TickAnswered (table tree : List ℕ) (r : Reading) (lent : List ℕ) (result : ℕ) : Type 0 where

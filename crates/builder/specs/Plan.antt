@@ -92,10 +92,6 @@ sizeOf paired l = record { entries = length l; bytes = length (treeBytes paired 
 
 -- ---- the answers of the code, in these terms
 
--- so many second masks, of which a list that is not paired has none
-abbrev pub ifPaired : Bool → ℕ → ℕ
-ifPaired paired n = if paired then n else 0
-
 abbrev pub listedOf : Listed → Checked ℕ
 listedOf (L.Entries n) = accepted n
 listedOf (L.Refused x) = refusedBy x

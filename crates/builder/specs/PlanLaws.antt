@@ -24,12 +24,12 @@ use Rattle.expander.specs.declared.Expanded.{Expanded}
 use Rattle.expander.specs.declared.Expanded.the-variants as X
 use Rattle.expander.specs.declared.Until.{Until}
 use Rattle.expander.specs.declared.Until.the-variants as U
-use Rattle.expander.specs.Expands.{Columns, columns, capacityOf, Unlent, endedBy, over, written, room, held, planIn, expandedOf, listedBy, Expands}
+use Rattle.expander.specs.Expands.{Columns, columns, capacityOf, Unlent, endedBy, over, written, room, held, planIn, expandedOf, listedBy, Expands, ifPaired}
 use Rattle.expander.specs.ExpandsLaws.{capacity-most, capacity-pairs, stored, list-held, list-length, held-length, stored-small, exhausted-some, covered-some, over-long}
 use Rattle.flat.specs.TreeBytes.{treeBytes, treeEntries}
 use Rattle.flat.specs.FlatTreeLaws.{tree-columns}
 use Rattle.builder.specs.declared.Size.{Size}
-use Rattle.builder.specs.Plan.{tableActions, pairs, ifPaired, Plan, noPlan, listOnly, listAndTree, withTree, finishedBy, planBy, tablePlan, sizeOf, WritesTree, WritesPlan}
+use Rattle.builder.specs.Plan.{tableActions, pairs, Plan, noPlan, listOnly, listAndTree, withTree, finishedBy, planBy, tablePlan, sizeOf, WritesTree, WritesPlan}
 
 -- ---- the tree of a list that stands in columns
 

@@ -27,9 +27,9 @@ use Rattle.job_rows.specs.RowLaws.{load-whole}
 use Rattle.planning.specs.Facts.{Actions}
 use Rattle.expander.specs.declared.Expanded.{Expanded}
 use Rattle.expander.specs.declared.Until.{Until}
-use Rattle.expander.specs.Expands.{Columns, actionsOf, Expands}
+use Rattle.expander.specs.Expands.{Columns, actionsOf, Expands, ifPaired}
 use Rattle.expander.specs.ExpandsLaws.{count-rows}
-use Rattle.builder.specs.Plan.{jobOf, tableActions, pairs, ifPaired}
+use Rattle.builder.specs.Plan.{jobOf, tableActions, pairs}
 
 -- ---- rows of a table's masks hold its actions
 
@@ -81,10 +81,6 @@ rows-actions t paired none few =
     (rw (length-map (t .jobs) (λ j. actionOf j .needs), length-map (t .jobs) (λ j. actionOf j .adds), length-map (t .jobs) (λ j. actionOf j .deletes))
     (count-rows (length (t .jobs)) few))
     (fun-ext (row-action (t .jobs) paired none))
-
-pub if-most : (paired : Bool) (n : ℕ) → ifPaired paired n ≤ n
-if-most true n = omega arith
-if-most false n = omega arith
 
 -- a table without a 0x21 has no job that needs a fact absent
 pub no-absent : (s : List ℕ) → AreBytes s → (t : Table) → readTable s ≡ accepted t → pairs t ≡ false → (a : ℕ) → jobOf t a .absent ≡ 0

@@ -15,7 +15,7 @@ ghost use Rattle.tree.specs.ReadTree.{maxChildren};
 ghost use Rattle.conditions.specs.Condition.{plain};
 ghost use Rattle.expander.specs.Expands.{columns, room, Unlent, expandedOf, Expands};
 ghost use Rattle.flat.specs.TreeBytes.{treeEntries};
-ghost use Rattle.builder.specs.Plan.{tableActions, pairs, ifPaired, withTree, tablePlan, sizeOf, listedOf, builtOf, WritesTree, WritesPlan};
+ghost use Rattle.builder.specs.Plan.{tableActions, pairs, withTree, tablePlan, sizeOf, listedOf, builtOf, WritesTree, WritesPlan};
 
 // The entries of a list and the bytes of its tree, and whether both hold second masks.
 pub struct Size {
@@ -28,13 +28,6 @@ pub enum Built {
     // The list and its tree.
     Whole(Size),
     Refused(Refusal),
-}
-
-// So many, for a table with a 0x21: for one without there are no second masks.
-fn if_paired(paired: bool, n: usize) -> usize
-    ensures { λ r. ⌜ r ≡ ifPaired paired n ⌝ }
-{
-    if paired { n } else { 0 }
 }
 
 // Lists the conditions from which the jobs of a sound table lead to its goal, up to the first that ends the list.
@@ -55,7 +48,7 @@ fn expand_goal(
 {
     let count = header.jobs;
     let goal = header.goal;
-    let used = if_paired(header.paired, count);
+    let used = expander::if_paired(header.paired, count);
     let mut needs = [0u64; table::MAX_JOBS];
     let mut absent = [0u64; table::MAX_JOBS];
     let mut adds = [0u64; table::MAX_JOBS];
@@ -201,7 +194,7 @@ pub fn build(
         (columns (now (conditions .exit)) (now (absences .exit)) (now (actions .exit)) (now (parents .exit)) (now (depths .exit)))
         (now (tree .entry)) (now (tree .exit)) (builtOf r)) ⌝ }
 {
-    let used = if_paired(header.paired, absences.len());
+    let used = expander::if_paired(header.paired, absences.len());
     build_in(
         table,
         header,

@@ -67,6 +67,10 @@ written paired l t =
     columns (over (λ x. x .condition .present) l (t .conditions)) (if paired then over (λ x. x .condition .absent) l (t .absences) else t .absences)
     (over (λ x. x .action) l (t .actions)) (over (λ x. x .parent) l (t .parents)) (over (λ x. x .depth) l (t .depths))
 
+-- so many second masks, of which a list that is not paired has none
+abbrev pub ifPaired : Bool → ℕ → ℕ
+ifPaired paired n = if paired then n else 0
+
 -- where the list is not paired, no second masks are lent
 abbrev pub Unlent : Bool → List ℕ → Type 0
 Unlent paired absences = T (not paired) → absences ≡ []

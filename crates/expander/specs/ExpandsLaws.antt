@@ -3,11 +3,13 @@
 use mathlib.Core.Path.{_≡_, refl, sym, ap, _∙_, subst}
 use mathlib.Core.Bool.{Bool, true, false, not}
 use mathlib.Core.Logic.{_↔_}
-use mathlib.Core.List.{List, map}
+use mathlib.Core.List.{List, [], map}
 use Prim.Native.Nat.{ℕ, suc, _≤_, _<_}
 use native.Mathlib.Omega.{arith}
 use lib.Dec.{T, T-not}
-use lib.ListN.{length, getD, drop, length-append, length-map, List·getD-append, List·getD-map}
+use lib.ListN.{length, getD, take, drop, length-append, length-map, List·getD-append, List·getD-map}
+use lib.Seq.{take-length}
+use Rattle.base.specs.Bools.{if_then_else_}
 use Rattle.base.specs.Lists.{getD-inside}
 use Rattle.refusal.specs.Checked.{accepted, andThen}
 use Rattle.conditions.specs.declared.Found.the-variants.{Nowhere}
@@ -32,7 +34,7 @@ use Rattle.expander.specs.declared.Expanded.{Expanded}
 use Rattle.expander.specs.declared.Expanded.the-variants as X
 use Rattle.expander.specs.declared.Until.{Until}
 use Rattle.expander.specs.declared.Until.the-variants as U
-use Rattle.expander.specs.Expands.{countOf, Columns, capacityOf, room, held, over, endedBy, planIn, expandedOf, listedBy, outcomeOf, Expands}
+use Rattle.expander.specs.Expands.{countOf, Columns, capacityOf, room, held, over, ifPaired, endedBy, planIn, expandedOf, listedBy, outcomeOf, Expands}
 
 -- ---- the number of actions, and the capacity
 
@@ -94,6 +96,24 @@ module _ (conditions absences actions parents depths : ℕ) where
   unfolding capacityOf
   capacity-pairs true t = omega arith
   capacity-pairs false t = absurd t
+
+-- ---- second masks
+
+module _ (paired : Bool) where
+  pub if-most : (n : ℕ) → ifPaired paired n ≤ n
+  if-most n = by-kind paired
+    where
+      by-kind : (p : Bool) → ifPaired p n ≤ n
+      by-kind true = omega arith
+      by-kind false = omega arith
+
+  -- what is lent of them, cut to those that count
+  pub cut-paired : (absences : List ℕ) → take (ifPaired paired (length absences)) absences ≡ (if paired then absences else [])
+  cut-paired absences = by-kind paired
+    where
+      by-kind : (p : Bool) → take (ifPaired p (length absences)) absences ≡ (if p then absences else [])
+      by-kind true = take-length absences
+      by-kind false = refl
 
 -- ---- the answer
 

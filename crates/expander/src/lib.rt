@@ -3,11 +3,10 @@
 use conditions::Condition;
 use conditions::Found;
 ghost use mathlib.Core.Path.{_≡_};
-ghost use Prim.Native.Nat.{min};
 ghost use lib.Dec.{ltb};
 ghost use lib.ListN.{length};
 ghost use Rattle.conditions.specs.Condition.{plain};
-ghost use Rattle.expander.specs.Expands.{countOf, actionsOf, columns, capacityOf, endedBy, Unlent, Expands};
+ghost use Rattle.expander.specs.Expands.{countOf, actionsOf, columns, capacityOf, endedBy, ifPaired, Unlent, Expands};
 
 // What ends the list, besides its capacity.
 pub enum Until {
@@ -30,18 +29,12 @@ pub enum Expanded {
 // Stored as the action of entry 0, which has none.
 pub const NO_ACTION: u8 = 255;
 
-const MAX_ENTRIES: usize = 4_096;
+pub const MAX_ENTRIES: usize = 4_096;
 
 // Of a paired list: there is a row of absent facts.
-const MAX_PAIRS: usize = 2_978;
+pub const MAX_PAIRS: usize = 2_978;
 
 const MAX_ACTIONS: usize = 128;
-
-fn lesser(a: usize, b: usize) -> usize
-    ensures { λ r. ⌜ r ≡ min a b ⌝ }
-{
-    if a < b { a } else { b }
-}
 
 // How many entries fit the list tables, by their lengths. Where there is no row of absent facts, the second masks take no room.
 fn capacity_of(
@@ -54,18 +47,31 @@ fn capacity_of(
 ) -> usize
     ensures { λ r. ⌜ r ≡ capacityOf (ltb 0 absent) conditions absences actions parents depths ⌝ }
 {
-    let shortest = lesser(lesser(conditions, actions), lesser(parents, depths));
+    let shortest = numbers::lesser(
+        numbers::lesser(conditions, actions),
+        numbers::lesser(parents, depths),
+    );
     if absent == 0 {
-        return lesser(shortest, MAX_ENTRIES);
+        return numbers::lesser(shortest, MAX_ENTRIES);
     }
-    lesser(lesser(shortest, absences), MAX_PAIRS)
+    numbers::lesser(numbers::lesser(shortest, absences), MAX_PAIRS)
+}
+
+// So many, of a paired list: one that is not has no second masks.
+pub fn if_paired(paired: bool, n: usize) -> usize
+    ensures { λ r. ⌜ r ≡ ifPaired paired n ⌝ }
+{
+    if paired { n } else { 0 }
 }
 
 // How many actions the rows hold, by their lengths.
 fn count_of(needs: usize, adds: usize, deletes: usize) -> usize
     ensures { λ r. ⌜ r ≡ countOf needs adds deletes ⌝ }
 {
-    lesser(lesser(lesser(needs, adds), deletes), MAX_ACTIONS)
+    numbers::lesser(
+        numbers::lesser(numbers::lesser(needs, adds), deletes),
+        MAX_ACTIONS,
+    )
 }
 
 // Does a listed condition end the list?

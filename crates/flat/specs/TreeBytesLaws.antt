@@ -166,7 +166,7 @@ module _ (paired : Bool) (conditions absences actions : List ℕ) where
   entries-split zero = refl
   entries-split (suc n) = rw (entries-split n)
 
-  later-suc : (n : ℕ) → later (suc (suc n)) ≡ later (suc n) ++ (entry (suc n) ∷ [])
+  pub later-suc : (n : ℕ) → later (suc (suc n)) ≡ later (suc n) ++ (entry (suc n) ∷ [])
   later-suc n = rw (entries-split n)
 
   later-grown : (i : ℕ) → 1 ≤ i → laterEntries paired (later (i + 1)) ≡ laterEntries paired (later i) ++ bytesOf i

@@ -1,7 +1,7 @@
-// Numbers of two and eight bytes at an offset, least byte first, read and written (document 01, "Masks are unsigned 64-bit, least byte
+// Numbers of two and eight bytes at an offset, least byte first, read and written, and the lesser of two numbers (document 01, "Masks are unsigned 64-bit, least byte
 // first" and "Two-byte numbers have the least byte first").
 ghost use mathlib.Core.Path.{_≡_};
-ghost use Prim.Native.Nat.{_+_, _≤_, _<_};
+ghost use Prim.Native.Nat.{_+_, _≤_, _<_, min};
 ghost use lib.ListN.{length};
 ghost use lib.Seq.{sets};
 ghost use Rattle.numbers.specs.Numbers.{toBytes, numberAt};
@@ -63,4 +63,11 @@ pub fn write_u64(s: &mut [u8], at: usize, v: u64)
 {
     write_u32(s, at, (v % 4_294_967_296) as u32);
     write_u32(s, at + 4, (v / 4_294_967_296) as u32);
+}
+
+// The lesser of two numbers.
+pub fn lesser(a: usize, b: usize) -> usize
+    ensures { λ r. ⌜ r ≡ min a b ⌝ }
+{
+    if a < b { a } else { b }
 }

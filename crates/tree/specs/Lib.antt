@@ -3,6 +3,7 @@ pub mod Tree
 pub mod ReadTree
 pub mod Tick
 pub mod TickBytes
+pub mod StatusNumbers
 -- laws
 pub mod ReadTreeLaws
 pub mod TickLaws

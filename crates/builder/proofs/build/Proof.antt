@@ -8,8 +8,10 @@ use lib.ListN.{length}
 use lib.Seq.{length-take-le}
 use borrow.Author.Needs.{needs}
 use Rattle.numbers.specs.Numbers.{AreBytes}
-use Rattle.builder.specs.Plan.{pairs, ifPaired, sizeOf}
-use Rattle.builder.specs.RowLaws.{if-most, header-paired}
+use Rattle.expander.specs.Expands.{ifPaired}
+use Rattle.builder.specs.Plan.{pairs, sizeOf}
+use Rattle.expander.specs.ExpandsLaws.{if-most}
+use Rattle.builder.specs.RowLaws.{header-paired}
 use Rattle.builder.specs.PlanLaws.{cut-unlent, writes-lent}
 use Rattle.builder.proofs.build.Statement.{statement}
 use Rattle.builder.proofs.build.Tie as tie

@@ -10,7 +10,8 @@ use borrow.Author.Needs.{needs}
 use Rattle.numbers.specs.Numbers.{AreBytes}
 use Rattle.table.specs.Read.{readTable, jobsOf}
 use Rattle.expander.specs.Expands.{Unlent}
-use Rattle.builder.specs.RowLaws.{header-count, header-few, if-most, row-lent, expands-table}
+use Rattle.expander.specs.ExpandsLaws.{if-most}
+use Rattle.builder.specs.RowLaws.{header-count, header-few, row-lent, expands-table}
 use Rattle.builder.proofs.expand_goal.Statement.{statement}
 use Rattle.builder.proofs.expand_goal.Tie as tie
 

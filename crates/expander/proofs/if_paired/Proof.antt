@@ -1,7 +1,7 @@
--- `builder::if_paired` meets its contract.
+-- `expander::if_paired` meets its contract.
 -- Assumes nothing.
-use Rattle.builder.proofs.if_paired.Statement.{statement}
-use Rattle.builder.proofs.if_paired.Tie as tie
+use Rattle.expander.proofs.if_paired.Statement.{statement}
+use Rattle.expander.proofs.if_paired.Tie as tie
 
 returns : tie.Need-returns
 returns c = rw (c .if1 .taken)
