@@ -1,0 +1,6 @@
+-- definitions
+pub mod Batch
+pub mod Steps
+-- laws
+pub mod StepLaws
+pub mod WalkLaws
