@@ -1,0 +1,4 @@
+-- definitions
+pub mod Checks
+-- laws
+pub mod CheckLaws
