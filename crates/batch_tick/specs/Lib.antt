@@ -1,0 +1,4 @@
+-- definitions
+pub mod BatchTick
+-- laws
+pub mod BatchTickLaws
