@@ -7,3 +7,4 @@ pub mod Printed
 -- computations
 pub mod Computed
 pub mod PairsComputed
+pub mod Yard
