@@ -17,9 +17,9 @@ count() {
 
 printf '%-20s %-11s %16s %16s\n' case side instructions 'library / side'
 "$program" --list | while read -r case side; do
-    # A plan is long enough that what the first call alone does is nothing beside it.
+    # A plan or a batch is long enough that what the first call alone does is nothing beside it.
     case $case in
-    plan_*) before=0 ;;
+    plan_* | batch_*) before=0 ;;
     *) before=1 ;;
     esac
     fewer=$(count "$case" "$side" $before)

@@ -12,7 +12,8 @@
  *     word.
  *   Names: below each stands an inline function over it, bay_SUBJECT_VERB (bay_tree_plan over bay_plan, bay_card_open over bay_open),
  *     which lends the answer and gives its words names. Its result is a struct: `refusal` (BAY_OK, or why), `place` (0 unless refused),
- *     then the values, all 0 where the call was refused. A table, a tree, a reading and a card come as structs.
+ *     then the values, all 0 where the call was refused. A table, a tree, a list, a reading, a batch of vehicles and a card come as
+ *     structs.
  *
  * Lent buffers. A buffer is a pointer and a number of elements. The pointer is aligned for its type, and not null, also where the
  * number is 0. What one call is lent, `answer` and the parts of a card included, does not overlap, and nobody else writes to it
@@ -38,8 +39,8 @@ extern "C" {
 #define BAY_MAX_JOBS 128
 #define BAY_MAX_SECONDS 5400      /* that a table may list a job with */
 #define BAY_MAX_TABLE_BYTES 4492  /* of a sound table: 128 jobs by BAY_PAIRED_JOB */
-#define BAY_MAX_ENTRIES 4096      /* that a plan lists */
-#define BAY_MAX_PAIR_ENTRIES 2978 /* that it lists of a paired table */
+#define BAY_MAX_ENTRIES 4096      /* that a plan lists, and that a list has which is ticked */
+#define BAY_MAX_PAIR_ENTRIES 2978 /* the same of a paired table */
 #define BAY_MAX_TREE_BYTES 65535  /* of a tree that is ticked */
 #define BAY_NO_JOB 255            /* the job of entry 0 */
 
@@ -57,6 +58,7 @@ enum bay_job_command {
  * The place of a refusal is
  *   - the offset of the faulty command for 1 to 7, 13 to 15, 19 and 22; but where a command byte is missing (1, 13) the length of the
  *     table or tree; where bytes follow END (7, 13) the first of them; and 0 for a tree of more than BAY_MAX_TREE_BYTES (13);
+ *   - of bay_tick_all, which has no tree, the vehicle for 8, 0 for 13, and the entry for 15;
  *   - the number of entries stored for 10 to 12;
  *   - the number of the job for BAY_UNWRITABLE;
  *   - 0 for all others. */
@@ -74,9 +76,11 @@ enum bay_refusal {
     BAY_LIST_FULL = 10,                 /* a condition to be stored would exceed the capacity */
     BAY_NO_WAY = 11,                    /* no sequence of jobs leads from the start to the goal */
     BAY_TREE_TOO_SHORT = 12,            /* the lent tree has no room for the list's tree */
-    BAY_BAD_TREE = 13,                  /* a tree is overlong, cut or malformed, or goes on after its END */
+    BAY_BAD_TREE = 13,                  /* a tree is overlong, cut or malformed, or goes on after its END; or a list has no entry, or too
+                                           many */
     BAY_TREE_TOO_DEEP = 14,             /* a tree node is deeper than 16 */
-    BAY_TREE_OPERAND_OUT_OF_RANGE = 15, /* a tree mask has a bit at or above F, or a job number is not below the job count */
+    BAY_TREE_OPERAND_OUT_OF_RANGE = 15, /* a mask of a tree or of a list has a bit at or above F, or a job number is not below the
+                                           job count */
     BAY_NO_SUCH_JOB = 16,               /* a number names no job of the table */
     BAY_NEED_NOT_HELD = 17,             /* a need of the reported job is unread or absent, or its absent fact is unread or held */
     BAY_CARD_EXHAUSTED = 18,            /* the card has 65,535 reports, its taken sum exceeds 65,535 times its count, or its planned
@@ -378,16 +382,79 @@ struct bay_ticked {
     uint64_t to_read;  /* of BAY_UNSETTLED, else 0 */
 };
 
+/* A status and its job or mask, of a tick that was done. */
+static inline struct bay_ticked bay_status_ticked(enum bay_status status, uint64_t value) {
+    struct bay_ticked ticked;
+    ticked.refusal = BAY_OK;
+    ticked.place = 0;
+    ticked.status = status;
+    ticked.job = status == BAY_RUNNING ? (size_t)value : BAY_NO_JOB;
+    ticked.to_read = status == BAY_UNSETTLED ? value : 0;
+    return ticked;
+}
+
 static inline struct bay_ticked bay_tree_tick(struct bay_table table, struct bay_tree tree, struct bay_reading reading) {
     uint64_t answer[3];
     struct bay_ticked ticked;
     bay_tick(table.bytes, table.length, tree.bytes, tree.length, reading.held, reading.unread, answer);
+    ticked = bay_status_ticked(answer[0] == 0 ? (enum bay_status)answer[1] : BAY_NO_STATUS, answer[2]);
     ticked.refusal = bay_answer_refusal(answer);
     ticked.place = bay_answer_place(answer);
-    ticked.status = ticked.refusal == BAY_OK ? (enum bay_status)answer[1] : BAY_NO_STATUS;
-    ticked.job = ticked.status == BAY_RUNNING ? (size_t)answer[2] : BAY_NO_JOB;
-    ticked.to_read = ticked.status == BAY_UNSETTLED ? answer[2] : 0;
     return ticked;
+}
+
+/* ---- the tick of many vehicles */
+
+/* Ticks a list for many vehicles in one walk: each is told what bay_tick tells it on the list's tree, and the tree need not be there.
+ * Entry i of the list stands at i of conditions and jobs, of a paired table at i of absences too. The list has as many entries as the
+ * shortest of the two, or of the three. Under any other table absences is neither read nor counted, and may have 0 elements. The job of
+ * entry 0 is neither judged nor used. The list need not be a plan's.
+ * Vehicle i has its reading at i of held and unread; its answer goes to i of statuses, one of the first four of bay_status, and to i of
+ * values, the job or mask (0 where there is none). There are as many vehicles as the shortest of these four rows has elements: readings
+ * past them are not judged, and nothing past them is written.
+ * answer: 0, the number of entries read: 0 where there are no vehicles, all where a vehicle fails every entry, else one more than the
+ * furthest entry at which a vehicle stopped.
+ * After the table's refusals come 8 with the first vehicle whose reading is bad; 13 with 0 for a list of no entry, of more than
+ * BAY_MAX_ENTRIES, or of a paired table of more than BAY_MAX_PAIR_ENTRIES; and 15 with the first entry that has a fact, or after entry 0
+ * a job, that the table has not. The list is judged also where there are no vehicles. */
+uint64_t bay_tick_all(const uint8_t *table, size_t table_len, const uint64_t *conditions, size_t conditions_len,
+                      const uint64_t *absences, size_t absences_len, const uint8_t *jobs, size_t jobs_len, const uint64_t *held,
+                      size_t held_len, const uint64_t *unread, size_t unread_len, uint8_t *statuses, size_t statuses_len,
+                      uint64_t *values, size_t values_len, uint64_t answer[2]);
+
+/* So many vehicles: their readings, and room for their answers. */
+struct bay_batch {
+    const uint64_t *held;
+    const uint64_t *unread;
+    uint8_t *statuses; /* of bay_status */
+    uint64_t *values;  /* jobs or masks */
+    size_t vehicles;
+};
+
+struct bay_batch_ticked {
+    enum bay_refusal refusal;
+    size_t place;
+    size_t entries_read;
+};
+
+/* There are list.entries jobs. After a plan that is the number of entries planned, and the second masks may be all that the plan was lent:
+ * those past the entries do not count. Fewer would end the list of a paired table. */
+static inline struct bay_batch_ticked bay_list_tick_all(struct bay_table table, struct bay_list list, const uint8_t *jobs,
+                                                        struct bay_batch batch) {
+    uint64_t answer[2];
+    struct bay_batch_ticked ticked;
+    bay_tick_all(table.bytes, table.length, list.conditions, list.entries, list.absences, list.absences_entries, jobs, list.entries,
+                 batch.held, batch.vehicles, batch.unread, batch.vehicles, batch.statuses, batch.vehicles, batch.values,
+                 batch.vehicles, answer);
+    ticked.refusal = bay_answer_refusal(answer);
+    ticked.place = bay_answer_place(answer);
+    ticked.entries_read = (size_t)bay_answer_value(answer, 1);
+    return ticked;
+}
+
+/* The answer of one vehicle of a batch that was ticked. */
+static inline struct bay_ticked bay_batch_vehicle(struct bay_batch batch, size_t vehicle) {
+    return bay_status_ticked((enum bay_status)batch.statuses[vehicle], batch.values[vehicle]);
 }
 
 /* ---- the job card */

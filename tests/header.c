@@ -298,6 +298,105 @@ static void searches(void) {
     CHECK(found.any && found.entry == 3);
 }
 
+static uint64_t yard_held[5], yard_unread[5], yard_values[5];
+static uint8_t yard_statuses[5];
+
+/* So many vehicles on the first entries of the list planned last. */
+static struct bay_batch_ticked yard(struct bay_table table, size_t entries, size_t second_masks, size_t vehicles) {
+    struct bay_list list = {conditions, entries, absences, second_masks};
+    struct bay_batch batch = {yard_held, yard_unread, yard_statuses, yard_values, vehicles};
+    memset(yard_statuses, 0xa5, sizeof yard_statuses);
+    memset(yard_values, 0xa5, sizeof yard_values);
+    return bay_list_tick_all(table, list, jobs, batch);
+}
+
+static void park(size_t vehicle, uint64_t held, uint64_t unread) {
+    yard_held[vehicle] = held;
+    yard_unread[vehicle] = unread;
+}
+
+static int told(size_t vehicle, enum bay_status status, size_t job, uint64_t to_read) {
+    struct bay_batch batch = {yard_held, yard_unread, yard_statuses, yard_values, 5};
+    struct bay_ticked ticked = bay_batch_vehicle(batch, vehicle);
+    return ticked.refusal == BAY_OK && ticked.place == 0 && ticked.status == status && ticked.job == job && ticked.to_read == to_read;
+}
+
+static int untold(size_t vehicle) {
+    return yard_statuses[vehicle] == 0xa5 && yard_values[vehicle] == UINT64_C(0xa5a5a5a5a5a5a5a5);
+}
+
+static void batches(void) {
+    struct bay_table table = first(147);
+    park(0, 0x10, 0);
+    park(1, 0x02, 0x08);
+    park(2, 0x03, 0);
+    park(3, 0x08, 0);
+    park(4, 0x20, 0);
+    struct bay_batch_ticked ticked = yard(table, 8, 0, 4);
+    DONE(ticked);
+    CHECK(ticked.entries_read == 8);
+    CHECK(told(0, BAY_SUCCESS, BAY_NO_JOB, 0) && told(1, BAY_UNSETTLED, BAY_NO_JOB, 0x08));
+    CHECK(told(2, BAY_RUNNING, 3, 0) && told(3, BAY_FAILURE, BAY_NO_JOB, 0) && untold(4));
+    ticked = yard(table, 8, BAY_MAX_PAIR_ENTRIES, 3);
+    DONE(ticked);
+    CHECK(ticked.entries_read == 6 && untold(3));
+    ticked = yard(table, 8, 0, 0);
+    DONE(ticked);
+    CHECK(ticked.entries_read == 0 && untold(0));
+
+    ticked = yard(table, 8, 0, 5);
+    REFUSED(ticked, BAY_BAD_READING, 4);
+    CHECK(ticked.entries_read == 0 && untold(0) && untold(4));
+    REFUSED(yard(first(146), 8, 0, 5), BAY_TABLE_CUT, 146);
+    REFUSED(yard(table, 0, 0, 0), BAY_BAD_TREE, 0);
+    conditions[6] |= 0x20;
+    REFUSED(yard(table, 8, 0, 4), BAY_TREE_OPERAND_OUT_OF_RANGE, 6);
+    conditions[6] &= 0x1f;
+    jobs[7] = 5;
+    REFUSED(yard(table, 8, 0, 0), BAY_TREE_OPERAND_OUT_OF_RANGE, 7);
+    CHECK(untold(0));
+    DONE(yard(table, 7, 0, 4));
+    jobs[7] = 3;
+    /* One entry too many for either table. */
+    static uint64_t longer[BAY_MAX_ENTRIES + 1];
+    static uint8_t longer_jobs[BAY_MAX_ENTRIES + 1];
+    struct bay_list list = {longer, BAY_MAX_ENTRIES + 1, longer, 0};
+    struct bay_batch batch = {yard_held, yard_unread, yard_statuses, yard_values, 4};
+    REFUSED(bay_list_tick_all(table, list, longer_jobs, batch), BAY_BAD_TREE, 0);
+    list.entries = BAY_MAX_ENTRIES;
+    DONE(bay_list_tick_all(table, list, longer_jobs, batch));
+    struct bay_table pairs = {pair_table_bytes, 163};
+    batch.vehicles = 1;
+    yard_held[0] = 0x08;
+    list.absences_entries = BAY_MAX_PAIR_ENTRIES + 1;
+    REFUSED(bay_list_tick_all(pairs, list, longer_jobs, batch), BAY_BAD_TREE, 0);
+    list.absences_entries = BAY_MAX_PAIR_ENTRIES;
+    DONE(bay_list_tick_all(pairs, list, longer_jobs, batch));
+}
+
+static void pair_batches(void) {
+    struct bay_table table = {pair_table_bytes, 163};
+    park(0, 0x08, 0x07);
+    park(1, 0x04, 0);
+    park(2, 0x04, 0x01);
+    park(3, 0x00, 0);
+    struct bay_batch_ticked ticked = yard(table, 7, BAY_MAX_PAIR_ENTRIES, 3);
+    DONE(ticked);
+    CHECK(ticked.entries_read == 3 && untold(3));
+    CHECK(told(0, BAY_SUCCESS, BAY_NO_JOB, 0) && told(1, BAY_RUNNING, 2, 0) && told(2, BAY_UNSETTLED, BAY_NO_JOB, 0x01));
+    /* The list ends with its second masks: five, two, none. */
+    ticked = yard(table, 7, 5, 4);
+    DONE(ticked);
+    CHECK(ticked.entries_read == 5 && told(3, BAY_FAILURE, BAY_NO_JOB, 0));
+    ticked = yard(table, 7, 2, 2);
+    DONE(ticked);
+    CHECK(ticked.entries_read == 2 && told(1, BAY_FAILURE, BAY_NO_JOB, 0));
+    REFUSED(yard(table, 7, 0, 4), BAY_BAD_TREE, 0);
+    absences[2] |= 0x10;
+    REFUSED(yard(table, 7, 7, 4), BAY_TREE_OPERAND_OUT_OF_RANGE, 2);
+    absences[2] &= 0x0f;
+}
+
 static void cards(void) {
     struct bay_table table = first(147);
     struct bay_tree tree = {tree_bytes, 111};
@@ -340,8 +439,10 @@ int main(void) {
     plans();
     searches();
     ticks();
+    batches();
     cards();
     pair_plans();
+    pair_batches();
     printf("%d passed, %d failed\n", passed, failed);
     return failed != 0;
 }

@@ -13,7 +13,7 @@ use std::hint::black_box;
 use std::time::Instant;
 
 use bay_tests::engine::{self, Job, Lent, Status, MOST_ENTRIES, MOST_PAIR_ENTRIES};
-use bay_tests::make::{self, Jobs};
+use bay_tests::make::{self, BatchRows, Jobs};
 use bay_tests::trailer;
 
 /// One way to do a case. It gives a number made of its answer, by which the sides are compared.
@@ -105,7 +105,7 @@ fn tick_case(table: Vec<u8>, start: u64) -> Vec<Side> {
         side("library", move || {
             let answer = ffi::tick(&t1, &r1, start, 0);
             assert_eq!(answer[0], 0);
-            answer[1] << 56 | answer[2]
+            told(answer[1], answer[2])
         }),
         side("rust", move || status_word(tight::tick_by_calls(&t2, &r2, start, 0).expect("sound"))),
         side("rust_flat", move || status_word(tight::tick_flat(&t3, &r3, start, 0).expect("sound"))),
@@ -128,8 +128,65 @@ fn table_case(table: Vec<u8>) -> Vec<Side> {
     ]
 }
 
+/// A thousand vehicles on a counter's list, which comes to the number 0 last: of ten, seven stop deep in it, one has a bit unread, one stops early, and
+/// one fails every entry. `at` gives the state at a number, `bit` the facts of some bit, `nowhere` a state that the list does not cover.
+fn counter_vehicles(last: u64, at: fn(u64) -> u64, bit: u64, nowhere: u64) -> Vec<(u64, u64)> {
+    let vehicle = |i: u64| match i % 10 {
+        0 => (at(last - i), 0),
+        1 => (nowhere, 0),
+        2 => (at(i) & !bit, bit),
+        _ => (at(i / 4), 0),
+    };
+    (0..1_000).map(vehicle).collect()
+}
+
+/// The state of a counter with a fact for set and one for clear of each of its twelve bits.
+fn counter_state(number: u64) -> u64 {
+    (0..12).map(|i| if number >> i & 1 == 1 { 1 << (2 * i) } else { 2 << (2 * i) }).sum()
+}
+
+fn told(status: u64, value: u64) -> u64 {
+    status << 56 | value
+}
+
+/// What all vehicles are told, as one number.
+fn all_told(answers: impl Iterator<Item = u64>) -> u64 {
+    answers.fold(0, |sum: u64, answer| sum.rotate_left(5) ^ answer)
+}
+
+/// The whole list for many vehicles in one walk; one of them reads it to its end.
+fn batch_case(table: engine::Table, vehicles: Vec<(u64, u64)>) -> Vec<Side> {
+    let list = engine::expand(&table, None, MOST_ENTRIES).0;
+    let entries = list.len();
+    let (bytes, tree) = (table.bytes(), engine::tree_bytes(&table, &list));
+    let rows = BatchRows::of(&list, &vehicles);
+    let (b1, b2, r1, r2) = (bytes.clone(), bytes.clone(), rows.clone(), rows);
+    let (mut s1, mut v1) = (vec![0; vehicles.len()], vec![0; vehicles.len()]);
+    let (mut s2, mut v2) = (s1.clone(), v1.clone());
+    let of_rows = |statuses: &[u8], values: &[u64]| {
+        all_told(statuses.iter().zip(values).map(|(status, value)| told(u64::from(*status), *value)))
+    };
+    vec![
+        side("library", move || {
+            assert_eq!(ffi::tick_all(&b1, r1.batch(), &mut s1, &mut v1), [0, entries as u64]);
+            of_rows(&s1, &v1)
+        }),
+        side("rust", move || {
+            assert_eq!(tight::tick_all(&b2, r2.batch(), &mut s2, &mut v2), Ok(entries));
+            of_rows(&s2, &v2)
+        }),
+        side("one_by_one", move || {
+            all_told(vehicles.iter().map(|(held, unread)| {
+                let answer = ffi::tick(&bytes, &tree, *held, *unread);
+                assert_eq!(answer[0], 0);
+                told(answer[1], answer[2])
+            }))
+        }),
+    ]
+}
+
 /// The cases and what builds them: only what is asked for is built.
-const CASES: [(&str, fn() -> Vec<Side>); 13] = [
+const CASES: [(&str, fn() -> Vec<Side>); 15] = [
     ("plan_12_jobs", || plan_case(long_table(12))),
     ("plan_72_jobs", || plan_case(long_table(72))),
     ("plan_128_jobs", || plan_case(long_table(128))),
@@ -140,6 +197,14 @@ const CASES: [(&str, fn() -> Vec<Side>); 13] = [
     ("tick_8_entries", || tick_case(trailer::table(), 0x02)),
     ("tick_4096_entries", || tick_case(counter_table(12).0, counter_table(12).1)),
     ("tick_2978_pairs", || tick_case(make::pair_counter_table(12, 2_976, 60).bytes(), 0)),
+    ("batch_4096_entries", || {
+        let vehicles = counter_vehicles(4_095, counter_state, 3 << 8, 0);
+        batch_case(make::counter_table(12, 60).0, vehicles)
+    }),
+    ("batch_2978_pairs", || {
+        let vehicles = counter_vehicles(2_976, |number| number, 1 << 4, 4_095);
+        batch_case(make::pair_counter_table(12, 2_976, 60), vehicles)
+    }),
     ("table_5_jobs", || table_case(trailer::table())),
     ("table_128_jobs", || table_case(long_table(128).0)),
     ("table_128_pair_jobs", || table_case(long_pair_table(128).0)),

@@ -1,6 +1,6 @@
 //! Counterparts in Rust that are written for speed: no allocation, masks read once, the same loops as the paper's steps.
 
-use bay_tests::engine::{minutes, Lent, Planned, Refusal, Status};
+use bay_tests::engine::{minutes, Batch, Lent, Planned, Refusal, Status};
 
 pub struct Header {
     pub facts: u32,
@@ -490,4 +490,81 @@ pub fn tick_by_calls(table: &[u8], tree: &[u8], held: u64, unread: u64) -> Resul
 /// One flat pass.
 pub fn tick_flat(table: &[u8], tree: &[u8], held: u64, unread: u64) -> Result<Status, Refusal> {
     tick_by(table, tree, held, unread, |walk| walk.flat())
+}
+
+/// Ticks a list for every vehicle, entries outside and vehicles inside, and gives the entries read.
+pub fn tick_all(table: &[u8], batch: Batch, statuses: &mut [u8], values: &mut [u64]) -> Result<usize, Refusal> {
+    let header = read_table(table)?;
+    // One text of the walk; a table without 0x21 has none of the work on second masks.
+    if header.paired {
+        tick_list::<true>(&header, batch, statuses, values)
+    } else {
+        tick_list::<false>(&header, batch, statuses, values)
+    }
+}
+
+fn tick_list<const PAIRED: bool>(
+    header: &Header,
+    batch: Batch,
+    statuses: &mut [u8],
+    values: &mut [u64],
+) -> Result<usize, Refusal> {
+    let vehicles = [batch.held.len(), batch.unread.len(), values.len()].into_iter().fold(statuses.len(), usize::min);
+    let (held, unread) = (&batch.held[..vehicles], &batch.unread[..vehicles]);
+    let (statuses, values) = (&mut statuses[..vehicles], &mut values[..vehicles]);
+    let beyond = facts_beyond(header.facts);
+    for (vehicle, (held, unread)) in held.iter().zip(unread).enumerate() {
+        if held & unread != 0 || (held | unread) & beyond != 0 {
+            return refuse(8, vehicle);
+        }
+    }
+    let mut entries = batch.conditions.len().min(batch.jobs.len());
+    if PAIRED {
+        entries = entries.min(batch.absences.len());
+    }
+    if entries == 0 || entries > if PAIRED { 2_978 } else { 4_096 } {
+        return refuse(13, 0);
+    }
+    let (conditions, jobs) = (&batch.conditions[..entries], &batch.jobs[..entries]);
+    let absences = if PAIRED { &batch.absences[..entries] } else { &[] };
+    for entry in 0..entries {
+        let facts = conditions[entry] | if PAIRED { absences[entry] } else { 0 };
+        if facts & beyond != 0 || entry > 0 && usize::from(jobs[entry]) >= header.count {
+            return refuse(15, entry);
+        }
+    }
+    // The answer so far, which also marks who is still going.
+    statuses.fill(FAILURE);
+    values.fill(0);
+    let mut going = vehicles > 0;
+    let mut entry = 0;
+    while going && entry < entries {
+        let condition = conditions[entry];
+        let absence = if PAIRED { absences[entry] } else { 0 };
+        going = false;
+        let readings = held.iter().zip(unread);
+        for ((status, value), (held, unread)) in statuses.iter_mut().zip(values.iter_mut()).zip(readings) {
+            if *status != FAILURE {
+                continue;
+            }
+            let mut missed = condition & !(held | unread);
+            if PAIRED {
+                missed |= absence & held;
+            }
+            if missed != 0 {
+                going = true;
+                continue;
+            }
+            let open = (condition | absence) & unread;
+            (*status, *value) = if open != 0 {
+                (UNSETTLED, open)
+            } else if entry > 0 {
+                (RUNNING, u64::from(jobs[entry]))
+            } else {
+                (SUCCESS, 0)
+            };
+        }
+        entry += 1;
+    }
+    Ok(entry)
 }

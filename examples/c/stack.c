@@ -1,4 +1,5 @@
-/* Ticks the widest and the deepest trees that are legal, and plans the longest list. To be run with a stack of BAY_STACK_BYTES:
+/* Ticks the widest and the deepest trees that are legal, plans the longest list, and ticks it for a yard of vehicles. To be run with a stack of
+ * BAY_STACK_BYTES:
  *
  *     cc -std=c99 -Iinclude examples/c/stack.c target/staticlib/libbay.a -o target/stack && (ulimit -s 256; target/stack)
  */
@@ -15,7 +16,8 @@ enum {
     PAIR = 0x45,
     END_OF_TREE = 0x4f,
     DEEPEST = 16,
-    WIDEST = 4096
+    WIDEST = 4096,
+    VEHICLES = 1000
 };
 
 static uint8_t table_bytes[BAY_MAX_TABLE_BYTES];
@@ -63,8 +65,24 @@ static int tick(const char *name, struct bay_table table, uint64_t held) {
     return ticked.refusal == BAY_OK;
 }
 
+/* Ticks a list for a yard of vehicles, all of which hold the same, and prints what the last is told. */
+static int tick_all(const char *name, struct bay_table table, size_t entries, uint64_t start) {
+    static uint64_t held[VEHICLES], unread[VEHICLES], values[VEHICLES];
+    static uint8_t statuses[VEHICLES];
+    for (int i = 0; i < VEHICLES; i++) {
+        held[i] = start;
+    }
+    struct bay_list list = {conditions, entries, absences, BAY_MAX_PAIR_ENTRIES};
+    struct bay_batch batch = {held, unread, statuses, values, VEHICLES};
+    struct bay_batch_ticked ticked = bay_list_tick_all(table, list, jobs, batch);
+    struct bay_ticked last = bay_batch_vehicle(batch, VEHICLES - 1);
+    printf("%s: %d vehicles, refusal %d, %zu entries read, status %d, job %zu\n", name, VEHICLES, (int)ticked.refusal,
+           ticked.entries_read, (int)last.status, last.job);
+    return ticked.refusal == BAY_OK;
+}
+
 /* Plans for the whole shift, which lists all that there is room for, then for a start that meets the last entry listed and no earlier one, and
- * ticks the tree of that plan. */
+ * ticks the tree of that plan and its list. */
 static int plan(const char *name, struct bay_table table, uint64_t needed_absent) {
     struct bay_plan_room room = {conditions, jobs, parents, depths, BAY_MAX_ENTRIES, absences, BAY_MAX_PAIR_ENTRIES, tree_bytes,
                                  sizeof tree_bytes};
@@ -80,7 +98,7 @@ static int plan(const char *name, struct bay_table table, uint64_t needed_absent
     printf("%s: refusal %d, %zu entries, %zu bytes, %zu jobs, %" PRIu32 " minutes\n", name, (int)plan.refusal, plan.entries,
            plan.tree_bytes, plan.way_jobs, plan.way_minutes);
     tree_length = plan.tree_bytes;
-    return plan.refusal == BAY_OK && tick("built", table, start.held);
+    return plan.refusal == BAY_OK && tick("built", table, start.held) && tick_all("yard", table, plan.entries, start.held);
 }
 
 /* Twelve facts to reach, each from a fact of its own, so that the list would have 4,096 entries; the jobs after the first twelve do the same

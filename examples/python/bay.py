@@ -133,6 +133,11 @@ class Tick(NamedTuple):
     to_read: int = 0  # of UNSETTLED: the facts to read first
 
 
+class BatchTick(NamedTuple):
+    ticks: Tuple[Tick, ...]  # one for each vehicle
+    entries_read: int
+
+
 class Card(NamedTuple):
     """A job card. The calls over it give the card after them; a refused one leaves the old card as it was."""
 
@@ -184,6 +189,7 @@ _PARAMETERS = {
     "bay_plan_shift": _SLICE + _SLICE * 6 + _ANSWER,
     "bay_newest_weaker": _SLICE * 2 + _MASKS + _ANSWER,
     "bay_tick": _SLICE * 2 + _MASKS + _ANSWER,
+    "bay_tick_all": _SLICE * 8 + _ANSWER,
     "bay_open": _SLICE + _MASKS + _CARD + _ANSWER,
     "bay_read_outside": _SLICE + _MASKS + _CARD[:2] + _ANSWER,
     "bay_report": _SLICE + [c_size_t, c_size_t] + _CARD + _ANSWER,
@@ -290,13 +296,39 @@ class Bay:
 
     # ---- the tick
 
-    def tick(self, table, tree, reading) -> Tick:
-        arguments = (*_bytes("table", table), *_bytes("tree", tree), *_masks("reading", reading))
-        word, value = self._call("bay_tick", 3, *arguments)
+    @staticmethod
+    def _tick(word, value):
         status = Status(word)
         if status == Status.RUNNING:
             return Tick(status, job=value)
         return Tick(status, to_read=value)
+
+    def tick(self, table, tree, reading) -> Tick:
+        arguments = (*_bytes("table", table), *_bytes("tree", tree), *_masks("reading", reading))
+        return self._tick(*self._call("bay_tick", 3, *arguments))
+
+    def tick_all(self, table, entries, readings) -> BatchTick:
+        """What a tick gives each reading on the tree of a list, which is the entries of a plan, or others. The job of entry 0 is of no account."""
+        entries = [Entry(*entry) for entry in entries]
+        jobs = [entry.job for entry in entries]
+        if jobs and jobs[0] is None:
+            jobs[0] = NO_JOB
+        masks = [_masks(f"reading {i}", reading) for i, reading in enumerate(readings)]
+        vehicles = len(masks)
+        statuses, values = _row(c_uint8, [0] * vehicles), _row(c_uint64, [0] * vehicles)
+        rows = [
+            _row(c_uint64, [_number(f"entry {i}'s condition", entry.condition, 64) for i, entry in enumerate(entries)]),
+            _row(c_uint64, [_number(f"entry {i}'s absent", entry.absent, 64) for i, entry in enumerate(entries)]),
+            _row(c_uint8, [_number(f"entry {i}'s job", job, 8) for i, job in enumerate(jobs)]),
+            _row(c_uint64, [held for held, _ in masks]),
+            _row(c_uint64, [unread for _, unread in masks]),
+            statuses,
+            values,
+        ]
+        lent = [part for row in rows for part in row]
+        (entries_read,) = self._call("bay_tick_all", 2, *_bytes("table", table), *lent)
+        answers = zip(statuses[0][:vehicles], values[0][:vehicles])
+        return BatchTick(tuple(self._tick(*answer) for answer in answers), entries_read)
 
     # ---- the job card
 

@@ -1,5 +1,5 @@
-"""Plans the work on a trailer and follows vehicles with the one tree; then the same with one fact less, "trailer off" as the absence of "trailer
-on".
+"""Plans the work on a trailer, follows vehicles with the one tree, and looks over a yard of them in one call; then the same with one fact less,
+"trailer off" as the absence of "trailer on".
 
     python3 examples/python/plan.py target/libbay.so
 
@@ -84,18 +84,34 @@ def follow(bay, workshop, table, tree, reading, truly):
     print(f"  {card.reports} reports, {card.taken} seconds, late by {bay.lateness(card)} minutes")
 
 
+def look_over(bay, workshop, table, plan, yard):
+    """What is next for each vehicle of a yard, from the plan's list in one call."""
+    batch = bay.tick_all(table, plan.entries, yard)
+    print(f"yard: {batch.entries_read} of {len(plan.entries)} entries read")
+    for reading, tick in zip(yard, batch.ticks):
+        if tick.status == Status.RUNNING:
+            told = f"next {JOB_NAMES[tick.job]}"
+        elif tick.status == Status.UNSETTLED:
+            told = f"to be read first: {workshop.named(tick.to_read)}"
+        else:
+            told = "sealed" if tick.status == Status.SUCCESS else "not covered by this list"
+        print(f"  held {workshop.named(reading.held)}; unread {workshop.named(reading.unread)}: {told}")
+
+
 def main():
     bay = Bay(sys.argv[1] if len(sys.argv) > 1 else "target/libbay.so")
     table, plan = planned(bay, TRAILER, 0x02)
     follow(bay, TRAILER, table, plan.tree, Reading(0x02, 0x00), 0x02)
     follow(bay, TRAILER, table, plan.tree, Reading(0x02, 0x08), 0x0A)
     follow(bay, TRAILER, table, plan.tree, Reading(0x08, 0x00), 0x08)
+    look_over(bay, TRAILER, table, plan, [Reading(0x10), Reading(0x0C), Reading(0x02, 0x08), Reading(0x0A)])
 
     for name, call in [
         ("a table that is cut", lambda: bay.read_table(table[:100])),
         ("a start with an unread fact", lambda: bay.plan(table, Reading(0x02, 0x08))),
         ("a start from which there is no way", lambda: bay.plan(table, Reading(0x08))),
         ("a tree that is cut", lambda: bay.tick(table, plan.tree[:50], Reading(0x02))),
+        ("a yard whose second reading is bad", lambda: bay.tick_all(table, plan.entries, [Reading(0x02), Reading(0x20)])),
     ]:
         try:
             call()
@@ -105,6 +121,7 @@ def main():
     # Whether the trailer is on is not read at first: the tree asks for it where it matters.
     table, plan = planned(bay, ONE_FACT_LESS, 0x01)
     follow(bay, ONE_FACT_LESS, table, plan.tree, Reading(0x04, 0x01), 0x04)
+    look_over(bay, ONE_FACT_LESS, table, plan, [Reading(0x04), Reading(0x04, 0x01), Reading(0x05), Reading(0x00)])
 
 
 if __name__ == "__main__":

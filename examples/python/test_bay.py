@@ -12,7 +12,7 @@ import unittest
 from ctypes import POINTER, c_size_t, c_uint16, c_uint32, c_uint64, c_void_p
 
 import bay as module
-from bay import Bay, Card, Entry, Header, Job, JobCommand, Plan, Reading, Refusal, Refused, ShiftPlan, Status, Tick
+from bay import BatchTick, Bay, Card, Entry, Header, Job, JobCommand, Plan, Reading, Refusal, Refused, ShiftPlan, Status, Tick
 
 JOBS = [
     Job(0x01, 0x02, 0x01, 300),
@@ -54,7 +54,7 @@ class Ranges(unittest.TestCase):
     def calls(self, bits):
         """Every parameter of so many bits, as a call with a value for it."""
         bay, table, card = unlinked(), self.TABLE, self.CARD
-        job = Job(0, 0, 0, 0)
+        job, entry = Job(0, 0, 0, 0), Entry(0, 0, 0, 0)
         if bits == 64:
             yield lambda x: bay.read_job(table, x)
             yield lambda x: bay.write_table(x, [], 0)
@@ -68,8 +68,11 @@ class Ranges(unittest.TestCase):
             for reading in (lambda x: Reading(x, 0), lambda x: Reading(0, x)):
                 yield lambda x, reading=reading: bay.plan(table, reading(x))
                 yield lambda x, reading=reading: bay.tick(table, b"", reading(x))
+                yield lambda x, reading=reading: bay.tick_all(table, [entry], [Reading(), reading(x)])
                 yield lambda x, reading=reading: bay.open(table, reading(x))
                 yield lambda x, reading=reading: bay.read_outside(table, card, reading(x))
+            for name in ("condition", "absent"):
+                yield lambda x, name=name: bay.tick_all(table, [entry, entry._replace(**{name: x})], [])
             yield lambda x: bay.report(table, card, x, 0)
             yield lambda x: bay.report(table, card, 0, x)
             for name in ("held", "unread"):
@@ -84,6 +87,7 @@ class Ranges(unittest.TestCase):
                 yield lambda x, name=name: bay.lateness(card._replace(**{name: x}))
         if bits == 8:
             yield lambda x: bay.write_table(1, [job, job._replace(command=x)], 0)
+            yield lambda x: bay.tick_all(table, [entry, entry._replace(job=x)], [])
         if bits == 16:
             yield lambda x: bay.write_table(1, [job, job._replace(seconds=x)], 0)
             yield lambda x: bay.report(table, card._replace(reports=x), 0, 0)
@@ -112,6 +116,7 @@ class Ranges(unittest.TestCase):
                 lambda x: bay.plan_shift(x),
                 lambda x: bay.tick(x, b"", Reading()),
                 lambda x: bay.tick(b"", x, Reading()),
+                lambda x: bay.tick_all(x, [], []),
                 lambda x: bay.open(x, Reading()),
                 lambda x: bay.read_outside(x, self.CARD, Reading()),
                 lambda x: bay.report(x, self.CARD, 0, 0),
@@ -251,6 +256,30 @@ class Calls(Library):
         self.refused(Refusal.BAD_TREE, 110, self.bay.tick, self.table, tree[:110], Reading(0x02))
         self.refused(Refusal.BAD_TREE, 0, self.bay.tick, self.table, bytes(65536), Reading(0x02))
 
+    def test_batches(self):
+        entries = self.bay.plan(self.table, Reading(0x02)).entries
+        readings = [Reading(0x10), Reading(0x02, 0x08), Reading(0x03), Reading(0x08)]
+        ticks = (
+            Tick(Status.SUCCESS),
+            Tick(Status.UNSETTLED, to_read=0x08),
+            Tick(Status.RUNNING, job=3),
+            Tick(Status.FAILURE),
+        )
+        for vehicles, entries_read in enumerate([0, 1, 5, 6, 8]):
+            batch = self.bay.tick_all(self.table, entries, readings[:vehicles])
+            self.assertEqual(batch, BatchTick(ticks[:vehicles], entries_read))
+        # The job of entry 0 is of no account, and neither are second masks under this table.
+        for job in (None, 4, 200, 255):
+            other = [entries[0]._replace(job=job, absent=1 << 63), *entries[1:]]
+            self.assertEqual(self.bay.tick_all(self.table, other, readings).ticks, ticks)
+        self.refused(Refusal.TABLE_CUT, 146, self.bay.tick_all, self.table[:146], [], [Reading(0x20)])
+        self.refused(Refusal.BAD_READING, 2, self.bay.tick_all, self.table, [], readings[:2] + [Reading(0x20)])
+        self.refused(Refusal.BAD_TREE, 0, self.bay.tick_all, self.table, [], readings)
+        self.refused(Refusal.BAD_TREE, 0, self.bay.tick_all, self.table, [entries[1]] * 4097, [])
+        self.assertEqual(self.bay.tick_all(self.table, [entries[1]] * 4096, [Reading()]).entries_read, 4096)
+        for bad in (entries[3]._replace(condition=0x20), entries[3]._replace(job=5)):
+            self.refused(Refusal.TREE_OPERAND_OUT_OF_RANGE, 3, self.bay.tick_all, self.table, [*entries[:3], bad, *entries[4:]], [])
+
     def test_cards(self):
         card = self.bay.open(self.table, Reading(0x02, 0x09))
         self.assertEqual(card, Card(held=0x02, unread=0x09, reports=0, taken=0, planned=0))
@@ -307,6 +336,21 @@ class Pairs(Library):
             (Reading(0x08, 0x07), Tick(Status.SUCCESS)),
         ]:
             self.assertEqual(self.bay.tick(self.pairs, plan.tree, reading), tick)
+
+    def test_pair_batches(self):
+        entries = self.bay.plan(self.pairs, Reading(0x01)).entries
+        readings = [Reading(0x08, 0x07), Reading(0x04), Reading(0x04, 0x01), Reading(0x05)]
+        ticks = (
+            Tick(Status.SUCCESS),
+            Tick(Status.RUNNING, job=2),
+            Tick(Status.UNSETTLED, to_read=0x01),
+            Tick(Status.RUNNING, job=1),
+        )
+        self.assertEqual(self.bay.tick_all(self.pairs, entries, readings), BatchTick(ticks, 5))
+        bad = entries[2]._replace(absent=0x10)
+        self.refused(Refusal.TREE_OPERAND_OUT_OF_RANGE, 2, self.bay.tick_all, self.pairs, [*entries[:2], bad], readings)
+        self.refused(Refusal.BAD_TREE, 0, self.bay.tick_all, self.pairs, [entries[1]] * 2979, readings)
+        self.assertEqual(self.bay.tick_all(self.pairs, [entries[1]] * 2978, [Reading()]).entries_read, 2978)
 
     def test_pair_cards(self):
         for reading in (Reading(0x01), Reading(0x00, 0x01)):

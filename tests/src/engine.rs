@@ -806,6 +806,85 @@ pub fn named(table: &Table, root: &Node, start: u64) -> Vec<u8> {
     jobs
 }
 
+// ---- the tick of a whole yard (document 02, W4)
+
+/// What a batch of vehicles is asked by: the rows of a list, of which the second masks are of account under a table with a 0x21 only, and the rows of
+/// readings.
+#[derive(Clone, Copy, Debug)]
+pub struct Batch<'a> {
+    pub conditions: &'a [u64],
+    pub absences: &'a [u64],
+    pub jobs: &'a [u8],
+    pub held: &'a [u64],
+    pub unread: &'a [u64],
+}
+
+impl Batch<'_> {
+    /// "as many entries as the shorter has" (document 02, W4), and with a 0x21 as the shortest of three. A tree has no parents and no depths.
+    pub fn list(&self, paired: bool) -> Vec<Entry> {
+        let two = self.conditions.len().min(self.jobs.len());
+        let entries = if paired { two.min(self.absences.len()) } else { two };
+        let entry = |i: usize| Entry {
+            condition: Condition { present: self.conditions[i], absent: if paired { self.absences[i] } else { 0 } },
+            job: self.jobs[i],
+            parent: 0,
+            depth: 0,
+        };
+        (0..entries).map(entry).collect()
+    }
+
+    /// The readings due, where there is room for so many answers: "as many as the shortest row has" (document 02, W4).
+    fn readings(&self, room: usize) -> Vec<(u64, u64)> {
+        self.held.iter().copied().zip(self.unread.iter().copied()).take(room).collect()
+    }
+}
+
+/// What each vehicle is told, and the entries read.
+#[derive(Clone, Debug, PartialEq, Eq)]
+pub struct BatchTicked {
+    pub answers: Vec<Status>,
+    pub entries_read: usize,
+}
+
+/// "The answer also counts the entries read, each at most once: 0 for no vehicles, all if some vehicle fails every entry, else one more than the
+/// furthest entry at which a vehicle stopped" (document 02, W4).
+pub fn entries_read(list: &[Entry], readings: &[(u64, u64)]) -> usize {
+    let stop = |(held, unread): &(u64, u64)| {
+        list.iter().position(|entry| entry.condition.status(*held, *unread) != Status::Failure)
+    };
+    // None where one of them stops nowhere.
+    let stops: Option<Vec<usize>> = readings.iter().map(stop).collect();
+    match stops {
+        Some(stops) => stops.into_iter().max().map_or(0, |furthest| furthest + 1),
+        None => list.len(),
+    }
+}
+
+/// "Each answer is what a single tick gives on the tree of that list" (document 02, W4): so that tree is written, read, and ticked for each vehicle.
+/// The table's stops, then 8 with the vehicle, then 13, then 15 with the entry.
+pub fn tick_all(table: &[u8], batch: Batch, room: usize) -> Result<BatchTicked, Refusal> {
+    let table = read_table(table)?;
+    let readings = batch.readings(room);
+    for (vehicle, (held, unread)) in readings.iter().enumerate() {
+        judge_reading(&table, *held, *unread).map_err(|refusal| Refusal { place: vehicle, ..refusal })?;
+    }
+    let list = batch.list(table.is_paired());
+    if list.is_empty() || list.len() > table.most_entries() {
+        return refuse(13, 0);
+    }
+    for (i, entry) in list.iter().enumerate() {
+        let known_facts = table.has_only_known_facts(entry.condition.present | entry.condition.absent);
+        let known_job = i == 0 || usize::from(entry.job) < table.jobs.len();
+        if !known_facts || !known_job {
+            return refuse(15, i);
+        }
+    }
+    let root = read_tree(&tree_bytes(&table, &list), &table).expect("such a list has a sound tree");
+    let answer = |(held, unread): &(u64, u64)| tick_node(&root, *held, *unread).status;
+    let answers = readings.iter().map(answer).collect();
+    Ok(BatchTicked { answers, entries_read: entries_read(&list, &readings) })
+}
+
 // ---- the job card
 
 #[derive(Clone, Copy, Debug, Default, PartialEq, Eq)]

@@ -2,7 +2,7 @@
 
 use crate::brute;
 use crate::engine::*;
-use crate::make::{self, Jobs};
+use crate::make::{self, BatchRows, Jobs};
 use crate::random::Random;
 use crate::trailer::{self, one_fact_less};
 
@@ -388,6 +388,244 @@ fn stops_of_the_tree() {
     assert_eq!(stop(&pair(0, 0)[..17]), Some((13, 17)));
     assert_eq!(stop(&chain(16, &pair(0, 0x20))), Some((14, 48)));
     assert_eq!(stop(&[0x46, END_OF_TREE]), Some((13, 0)));
+}
+
+/// The answers and the count of a batch with room for so many, or number and place.
+fn yard_into(table: &[u8], rows: &BatchRows, room: usize) -> Result<(Vec<Status>, usize), (u64, usize)> {
+    match tick_all(table, rows.batch(), room) {
+        Ok(ticked) => Ok((ticked.answers, ticked.entries_read)),
+        Err(refusal) => Err((refusal.number, refusal.place)),
+    }
+}
+
+/// With room for all of it.
+fn yard(table: &[u8], rows: &BatchRows) -> Result<(Vec<Status>, usize), (u64, usize)> {
+    yard_into(table, rows, usize::MAX)
+}
+
+/// The list of P1.
+fn trailer_list() -> Vec<Entry> {
+    let table = read_table(&trailer::table()).unwrap();
+    expand(&table, Some(0x02), MOST_ENTRIES).0
+}
+
+/// The list that `trailer_with_one_fact_less` prints.
+fn one_fact_less_list() -> Vec<Entry> {
+    let table = read_table(&one_fact_less::table()).unwrap();
+    expand(&table, Some(0x01), MOST_ENTRIES).0
+}
+
+/// A reading, its answer on the list, and the entry at which it stops.
+type Marked = ((u64, u64), Status, Option<usize>);
+
+/// P7 to P10 among them.
+const TRAILER_YARD: [Marked; 8] = [
+    ((0x10, 0x00), Status::Success, Some(0)),
+    ((0x00, 0x10), Status::Unsettled(0x10), Some(0)),
+    ((0x0c, 0x00), Status::Running(4), Some(1)),
+    ((0x02, 0x08), Status::Unsettled(0x08), Some(4)),
+    ((0x03, 0x00), Status::Running(3), Some(5)),
+    ((0x02, 0x01), Status::Unsettled(0x01), Some(5)),
+    ((0x02, 0x00), Status::Running(3), Some(7)),
+    ((0x08, 0x00), Status::Failure, None),
+];
+
+const ONE_FACT_LESS_YARD: [Marked; 7] = [
+    ((0x08, 0x07), Status::Success, Some(0)),
+    ((0x06, 0x01), Status::Running(4), Some(1)),
+    ((0x04, 0x00), Status::Running(2), Some(2)),
+    ((0x04, 0x01), Status::Unsettled(0x01), Some(2)),
+    ((0x05, 0x00), Status::Running(1), Some(4)),
+    ((0x00, 0x01), Status::Unsettled(0x01), Some(6)),
+    ((0x00, 0x00), Status::Failure, None),
+];
+
+/// Each vehicle alone, each two, and the whole yard from either end: every answer is the vehicle's own, and the count is the furthest stop's.
+fn marked_yard(table: &[u8], list: &[Entry], yard_of: &[Marked]) {
+    let check = |vehicles: &[Marked]| {
+        let readings: Vec<(u64, u64)> = vehicles.iter().map(|marked| marked.0).collect();
+        let answers = vehicles.iter().map(|marked| marked.1).collect();
+        let stop = |marked: &Marked| marked.2.map_or(list.len(), |entry| entry + 1);
+        let count = vehicles.iter().map(stop).max().unwrap_or(0);
+        assert_eq!(yard(table, &BatchRows::of(list, &readings)), Ok((answers, count)));
+    };
+    check(&[]);
+    check(yard_of);
+    check(&yard_of.iter().rev().copied().collect::<Vec<_>>());
+    for one in yard_of {
+        check(&[*one]);
+        for other in yard_of {
+            check(&[*one, *other]);
+        }
+    }
+}
+
+#[test]
+fn yards_of_both_trailers() {
+    marked_yard(&trailer::table(), &trailer_list(), &TRAILER_YARD);
+    marked_yard(&one_fact_less::table(), &one_fact_less_list(), &ONE_FACT_LESS_YARD);
+}
+
+/// "0 for no vehicles, all if some vehicle fails every entry, else one more than the furthest entry at which a vehicle stopped"
+#[test]
+fn entries_read_of_a_yard() {
+    let count = |readings: &[(u64, u64)]| entries_read(&trailer_list(), readings);
+    assert_eq!(count(&[]), 0);
+    assert_eq!(count(&[(0x10, 0)]), 1);
+    assert_eq!(count(&[(0x10, 0), (0x00, 0x10), (0x10, 0)]), 1);
+    assert_eq!(count(&[(0x0c, 0), (0x10, 0)]), 2);
+    assert_eq!(count(&[(0x10, 0), (0x02, 0x01), (0x0c, 0)]), 6);
+    assert_eq!(count(&[(0x10, 0), (0x08, 0)]), 8);
+    assert_eq!(count(&[(0x08, 0), (0x02, 0)]), 8);
+    // With one entry more a vehicle at the last but one is told from one that fails every entry.
+    let whole = expand(&read_table(&trailer::table()).unwrap(), None, MOST_ENTRIES).0;
+    assert_eq!((whole.len(), entries_read(&whole, &[(0x02, 0)]), entries_read(&whole, &[(0x08, 0)])), (9, 8, 9));
+}
+
+#[test]
+fn stops_of_a_yard_come_in_order() {
+    let table = trailer::table();
+    let sound = BatchRows::of(&trailer_list(), &[(0x10, 0), (0x02, 0), (0x08, 0x01)]);
+    let stop = |change: &dyn Fn(&mut BatchRows)| {
+        let mut rows = sound.clone();
+        change(&mut rows);
+        yard(&table, &rows).err()
+    };
+    assert_eq!(stop(&|_| {}), None);
+    // 8, by the vehicle, and the first of two.
+    assert_eq!(stop(&|rows| rows.held[2] = 0x20), Some((8, 2)));
+    assert_eq!(stop(&|rows| rows.unread[1] = 0x02), Some((8, 1)));
+    assert_eq!(stop(&|rows| (rows.unread[0], rows.held[2]) = (0x20, 0x20)), Some((8, 0)));
+    // 13 for none and for too many, 15 by the entry.
+    assert_eq!(stop(&|rows| rows.conditions.clear()), Some((13, 0)));
+    assert_eq!(stop(&|rows| rows.jobs.clear()), Some((13, 0)));
+    assert_eq!(stop(&|rows| rows.conditions[0] = 0x30), Some((15, 0)));
+    assert_eq!(stop(&|rows| rows.conditions[7] = 1 << 63), Some((15, 7)));
+    assert_eq!(stop(&|rows| rows.jobs[7] = 5), Some((15, 7)));
+    assert_eq!(stop(&|rows| (rows.jobs[3], rows.conditions[3], rows.jobs[2]) = (255, 0x20, 200)), Some((15, 2)));
+    // The job of entry 0 is neither judged nor used.
+    for job in [0, 4, 5, 255] {
+        assert_eq!(stop(&|rows| rows.jobs[0] = job), None);
+    }
+    // 8, then 13, then 15; and the table before all.
+    assert_eq!(stop(&|rows| (rows.held[1], rows.conditions) = (0x20, vec![])), Some((8, 1)));
+    assert_eq!(stop(&|rows| (rows.held[1], rows.jobs[1]) = (0x20, 9)), Some((8, 1)));
+    let many = |rows: &mut BatchRows| (rows.conditions, rows.jobs) = (vec![0x20; 4_097], vec![9; 4_097]);
+    assert_eq!(stop(&many), Some((13, 0)));
+    let mut bad = sound.clone();
+    many(&mut bad);
+    bad.held[0] = 0x20;
+    assert_eq!(yard(&table[..146], &bad), Err((1, 146)));
+    assert_eq!(yard(&table, &bad), Err((8, 0)));
+    // No vehicles: the list is judged all the same.
+    bad.held.clear();
+    assert_eq!(yard(&table, &bad), Err((13, 0)));
+    assert_eq!(stop(&|rows| (rows.unread, rows.jobs[6]) = (vec![], 5)), Some((15, 6)));
+    // A table without jobs takes a list of one entry.
+    let jobless = table_bytes(5, &[], 0x10);
+    let first = |entries: usize| BatchRows::of(&trailer_list()[..entries], &[(0x10, 0)]);
+    assert_eq!(yard(&jobless, &first(1)), Ok((vec![Status::Success], 1)));
+    assert_eq!(yard(&jobless, &first(2)), Err((15, 1)));
+}
+
+/// "as many entries as the shorter has", "as many as the shortest row has": what stands past them is not judged.
+#[test]
+fn uneven_rows_of_a_yard() {
+    let table = trailer::table();
+    let mut rows = BatchRows::of(&trailer_list(), &[(0x10, 0), (0x02, 0), (0x20, 0)]);
+    rows.conditions.push(0x20);
+    rows.jobs.extend([9, 9]);
+    rows.unread.push(0x20);
+    assert_eq!(yard(&table, &rows), Err((8, 2)));
+    assert_eq!(yard_into(&table, &rows, 3), Err((8, 2)));
+    assert_eq!(yard_into(&table, &rows, 2), Err((15, 8)));
+    rows.conditions.pop();
+    assert_eq!(yard_into(&table, &rows, 2), Ok((vec![Status::Success, Status::Running(3)], 8)));
+    assert_eq!(yard_into(&table, &rows, 1), Ok((vec![Status::Success], 1)));
+    assert_eq!(yard_into(&table, &rows, 0), Ok((vec![], 0)));
+    for (held, unread) in [(2, 4), (5, 2), (0, 9), (9, 0)] {
+        let sound = BatchRows { held: vec![0x10; held], unread: vec![0; unread], ..rows.clone() };
+        assert_eq!(yard(&table, &sound).unwrap().0.len(), held.min(unread));
+    }
+    // Five entries: a vehicle that would meet the last of eight fails.
+    let shorter = BatchRows { jobs: rows.jobs[..5].to_vec(), held: vec![0x02], ..rows.clone() };
+    assert_eq!(yard(&table, &shorter), Ok((vec![Status::Failure], 5)));
+    // Second masks are of no account here, whatever they are; of a table with a 0x21 they count and are judged.
+    for absences in [vec![], vec![u64::MAX; 8], vec![0x10; 3], vec![0; 5_000]] {
+        let any = BatchRows { absences, held: vec![0x10, 0x02], ..rows.clone() };
+        assert_eq!(yard(&table, &any), Ok((vec![Status::Success, Status::Running(3)], 8)));
+    }
+    let table = one_fact_less::table();
+    let rows = BatchRows::of(&one_fact_less_list(), &[(0x05, 0), (0x01, 0)]);
+    assert_eq!(yard(&table, &rows), Ok((vec![Status::Running(1), Status::Running(3)], 7)));
+    let mut beyond = rows.clone();
+    beyond.absences[6] = 0x10;
+    assert_eq!(yard(&table, &beyond), Err((15, 6)));
+    beyond.absences.truncate(6);
+    assert_eq!(yard(&table, &beyond), Ok((vec![Status::Running(1), Status::Failure], 6)));
+    beyond.absences.clear();
+    assert_eq!(yard(&table, &beyond), Err((13, 0)));
+}
+
+#[test]
+fn longest_list_of_a_yard() {
+    let list = |condition: u64, entries: usize| {
+        let entry = Entry { condition: Condition::plain(condition), job: 0, parent: 0, depth: 0 };
+        BatchRows::of(&vec![entry; entries], &[(0x01, 0)])
+    };
+    for (table, most) in [(trailer::table(), 4_096), (one_fact_less::table(), 2_978)] {
+        assert_eq!(yard(&table, &list(0x02, most - 1)), Ok((vec![Status::Failure], most - 1)));
+        assert_eq!(yard(&table, &list(0x02, most)), Ok((vec![Status::Failure], most)));
+        assert_eq!(yard(&table, &list(0x02, most + 1)), Err((13, 0)));
+        assert_eq!(yard(&table, &list(0x01, most)), Ok((vec![Status::Success], 1)));
+        // What is past the shortest row does not count.
+        let mut rows = list(0x02, most + 1);
+        rows.jobs.pop();
+        assert_eq!(yard(&table, &rows), Ok((vec![Status::Failure], most)));
+    }
+}
+
+/// Lists that no plan made are answered as their tree would be: repeats, an empty condition first, a fact that is wanted both ways.
+#[test]
+fn foreign_lists_of_a_yard() {
+    let entry = |present: u64, absent: u64, job: u8| Entry {
+        condition: Condition { present, absent },
+        job,
+        parent: 0,
+        depth: 0,
+    };
+    let readings = [(0x01, 0), (0x00, 0x01), (0x00, 0)];
+    let empty_first = BatchRows::of(&[entry(0, 0, 3), entry(1, 0, 1)], &readings);
+    let repeated = BatchRows::of(&[entry(1, 0, 255), entry(1, 0, 1), entry(0, 0, 2), entry(0, 0, 4)], &readings);
+    for table in [trailer::table(), one_fact_less::table()] {
+        assert_eq!(yard(&table, &empty_first), Ok((vec![Status::Success; 3], 1)));
+        let answers = vec![Status::Success, Status::Unsettled(0x01), Status::Running(2)];
+        assert_eq!(yard(&table, &repeated), Ok((answers, 3)));
+    }
+    let both_ways = BatchRows::of(&[entry(8, 0, 0), entry(1, 1, 3), entry(0, 1, 2)], &readings);
+    let answers = vec![Status::Failure, Status::Unsettled(0x01), Status::Running(2)];
+    assert_eq!(yard(&one_fact_less::table(), &both_ways), Ok((answers, 3)));
+}
+
+/// The list is refused exactly where a tick refuses its tree, by the same number.
+#[test]
+fn a_yard_is_refused_as_its_tree_is() {
+    for index in 0..2_000 {
+        let random = &mut Random::for_case(1, "yard", index);
+        let kind = *random.pick(&[Jobs::Plain, Jobs::Paired]);
+        let table = make::table(random, 12, 6, kind);
+        let most = table.most_entries();
+        let entries = if random.one_in(50) { most - 1 + random.below(3) } else { random.below(5) };
+        let mut list = make::foreign_list(random, &table, entries);
+        if random.one_in(2) {
+            make::damage_list(random, &table, &mut list);
+        }
+        // A tree has no second masks without a 0x21, and no job of entry 0.
+        let tree = tree_bytes(&table, &list);
+        let by_tree = tick(&table.bytes(), &tree, 0, 0).map(|ticked| ticked.status).map_err(|refusal| refusal.number);
+        let by_list = yard(&table.bytes(), &BatchRows::of(&list, &[(0, 0)]));
+        assert_eq!(by_list.map(|(answers, _)| answers[0]).map_err(|refusal| refusal.0), by_tree);
+    }
 }
 
 /// "An unread fact of either mask leaves a condition open unless a read one fails it."

@@ -5,7 +5,7 @@
 
 use std::sync::atomic::{AtomicU64, Ordering};
 
-use bay_tests::engine::{Card, Columns, Condition, Lent};
+use bay_tests::engine::{Batch, Card, Columns, Condition, Lent};
 
 extern "C" {
     fn bay_read_table(table: *const u8, table_len: usize, answer: *mut u64) -> u64;
@@ -81,6 +81,25 @@ extern "C" {
         tree_len: usize,
         held: u64,
         unread: u64,
+        answer: *mut u64,
+    ) -> u64;
+    fn bay_tick_all(
+        table: *const u8,
+        table_len: usize,
+        conditions: *const u64,
+        conditions_len: usize,
+        absences: *const u64,
+        absences_len: usize,
+        jobs: *const u8,
+        jobs_len: usize,
+        held: *const u64,
+        held_len: usize,
+        unread: *const u64,
+        unread_len: usize,
+        statuses: *mut u8,
+        statuses_len: usize,
+        values: *mut u64,
+        values_len: usize,
         answer: *mut u64,
     ) -> u64;
     fn bay_open(
@@ -246,6 +265,30 @@ pub fn newest_weaker(listed: &[u64], absences: &[u64], condition: Condition) -> 
 pub fn tick(table: &[u8], tree: &[u8], held: u64, unread: u64) -> [u64; 3] {
     answer_of(|answer| unsafe {
         bay_tick(table.as_ptr(), table.len(), tree.as_ptr(), tree.len(), held, unread, answer)
+    })
+}
+
+pub fn tick_all(table: &[u8], batch: Batch, statuses: &mut [u8], values: &mut [u64]) -> [u64; 2] {
+    answer_of(|answer| unsafe {
+        bay_tick_all(
+            table.as_ptr(),
+            table.len(),
+            batch.conditions.as_ptr(),
+            batch.conditions.len(),
+            batch.absences.as_ptr(),
+            batch.absences.len(),
+            batch.jobs.as_ptr(),
+            batch.jobs.len(),
+            batch.held.as_ptr(),
+            batch.held.len(),
+            batch.unread.as_ptr(),
+            batch.unread.len(),
+            statuses.as_mut_ptr(),
+            statuses.len(),
+            values.as_mut_ptr(),
+            values.len(),
+            answer,
+        )
     })
 }
 

@@ -151,6 +151,81 @@ pub fn any_reading(random: &mut Random, facts: u32) -> (u64, u64) {
     (held, unread)
 }
 
+/// The rows that a batch is made of.
+#[derive(Clone, Debug, Default)]
+pub struct BatchRows {
+    pub conditions: Vec<u64>,
+    pub absences: Vec<u64>,
+    pub jobs: Vec<u8>,
+    pub held: Vec<u64>,
+    pub unread: Vec<u64>,
+}
+
+impl BatchRows {
+    pub fn of(list: &[Entry], readings: &[(u64, u64)]) -> BatchRows {
+        BatchRows {
+            conditions: list.iter().map(|entry| entry.condition.present).collect(),
+            absences: list.iter().map(|entry| entry.condition.absent).collect(),
+            jobs: list.iter().map(|entry| entry.job).collect(),
+            held: readings.iter().map(|reading| reading.0).collect(),
+            unread: readings.iter().map(|reading| reading.1).collect(),
+        }
+    }
+
+    pub fn batch(&self) -> Batch<'_> {
+        Batch {
+            conditions: &self.conditions,
+            absences: &self.absences,
+            jobs: &self.jobs,
+            held: &self.held,
+            unread: &self.unread,
+        }
+    }
+}
+
+/// A condition of a foreign list: often empty, or one that stands there already, or a pair that wants a fact both ways.
+fn foreign_condition(random: &mut Random, table: &Table, list: &[Entry]) -> Condition {
+    if !list.is_empty() && random.one_in(6) {
+        return random.pick(list).condition;
+    }
+    let absent = if table.is_paired() { random.facts(table.facts, 2) } else { 0 };
+    let present = random.facts(table.facts, 3);
+    Condition { present, absent: if random.one_in(4) { absent } else { absent & !present } }
+}
+
+/// A list that a table knows and no plan made. Entry 0 has any job; where the table has no jobs there is no other entry.
+pub fn foreign_list(random: &mut Random, table: &Table, entries: usize) -> Vec<Entry> {
+    let mut list = Vec::new();
+    let entries = if table.jobs.is_empty() { entries.min(1) } else { entries };
+    while list.len() < entries {
+        let condition = foreign_condition(random, table, &list);
+        let job = if list.is_empty() { random.byte() } else { random.below(table.jobs.len()) as u8 };
+        list.push(Entry { condition, job, parent: 0, depth: 0 });
+    }
+    list
+}
+
+/// Gives one entry of a list, if it has any, a bit at or above F, or a job that the table has not. The job of entry 0 is no fault, and without a 0x21
+/// a second mask is none.
+pub fn damage_list(random: &mut Random, table: &Table, list: &mut [Entry]) {
+    if list.is_empty() {
+        return;
+    }
+    let beyond = 1u64 << random.between(table.facts as usize - 1, 63);
+    let no_job = random.between(table.jobs.len(), 255) as u8;
+    let job = *random.pick(&[table.jobs.len() as u8, 255, no_job]);
+    let entry = random.pick_mut(list);
+    match random.below(4) {
+        0 => entry.condition.present |= beyond,
+        1 => entry.condition.absent |= beyond,
+        2 => entry.job = job,
+        _ => {
+            entry.condition.present |= beyond;
+            entry.job = job;
+        }
+    }
+}
+
 /// Changes bytes in one of many ways.
 pub fn damage(random: &mut Random, bytes: &mut Vec<u8>, commands: &[u8]) {
     let length = bytes.len();

@@ -3,9 +3,10 @@
 //! The library gets copies of the inputs, which must come back unchanged. A difference panics with the case.
 
 use bay_tests::engine::{
-    self, Card, Columns, Condition, Job, Lengths, Lent, Planned, Refusal, ShiftPlanned, Status, Table, Ticked,
-    Unwritten,
+    self, Batch, BatchTicked, Card, Columns, Condition, Job, Lengths, Lent, Planned, Refusal, ShiftPlanned, Status,
+    Table, Ticked, Unwritten,
 };
+use bay_tests::make::BatchRows;
 
 use super::lent;
 use crate::ffi;
@@ -23,7 +24,7 @@ fn reached(function: &'static str, number: u64) {
 }
 
 /// The numbers that each function can give.
-const NUMBERS: [(&str, &[u64]); 10] = [
+const NUMBERS: [(&str, &[u64]); 11] = [
     ("read_table", &[0, 1, 2, 3, 4, 5, 6, 7, 19, 22]),
     ("read_job", &[0, 1, 2, 3, 4, 5, 6, 7, 16, 19, 22]),
     ("write_table", &[0, 3, 4, 5, 6, 19, 22, ffi::TOO_SHORT, ffi::UNEVEN, ffi::UNWRITABLE]),
@@ -31,6 +32,7 @@ const NUMBERS: [(&str, &[u64]); 10] = [
     ("plan", &[0, 1, 2, 3, 4, 5, 6, 7, 8, 9, 10, 11, 12, 19, 22]),
     ("plan_shift", &[0, 1, 2, 3, 4, 5, 6, 7, 10, 12, 19, 22]),
     ("tick", &[0, 1, 2, 3, 4, 5, 6, 7, 8, 13, 14, 15, 19, 22]),
+    ("tick_all", &[0, 1, 2, 3, 4, 5, 6, 7, 8, 13, 15, 19, 22]),
     ("open", &[0, 1, 2, 3, 4, 5, 6, 7, 8, 19, 22]),
     ("read_outside", &[0, 1, 2, 3, 4, 5, 6, 7, 8, 19, 22]),
     ("report", &[0, 1, 2, 3, 4, 5, 6, 7, 8, 16, 17, 18, 19, 22, ffi::SECONDS_OUT_OF_RANGE]),
@@ -61,6 +63,22 @@ fn hex(bytes: &[u8]) -> String {
     }
 }
 
+/// The first numbers of a row, for a message that can be read.
+fn shown_row<T: std::fmt::LowerHex + std::fmt::Debug>(row: &[T]) -> String {
+    format!("{} of {:x?}", row.len(), &row[..row.len().min(60)])
+}
+
+fn shown_batch(batch: Batch) -> String {
+    format!(
+        "conditions {}, absences {}, jobs {}, held {}, unread {}",
+        shown_row(batch.conditions),
+        shown_row(batch.absences),
+        shown_row(batch.jobs),
+        shown_row(batch.held),
+        shown_row(batch.unread)
+    )
+}
+
 fn refused<const N: usize>(refusal: &Refusal) -> [u64; N] {
     let mut words = [0; N];
     words[0] = refusal.number;
@@ -81,6 +99,12 @@ fn first_difference<T: PartialEq + std::fmt::Debug>(name: &str, library: &[T], e
     Some(format!("{name}[{at}] of {}: library {:x?}, engine {:x?}", library.len(), library[at], engine[at]))
 }
 
+fn no_difference<const N: usize>(differences: [Option<String>; N], case: impl Fn() -> String) {
+    if let Some(difference) = differences.into_iter().flatten().next() {
+        panic!("{}\n  {difference}", case());
+    }
+}
+
 fn same_lent(library: &Lent, engine: &Lent, case: impl Fn() -> String) {
     let differences = [
         first_difference("conditions", &library.conditions, &engine.conditions),
@@ -90,9 +114,7 @@ fn same_lent(library: &Lent, engine: &Lent, case: impl Fn() -> String) {
         first_difference("depths", &library.depths, &engine.depths),
         first_difference("tree", &library.tree, &engine.tree),
     ];
-    if let Some(difference) = differences.into_iter().flatten().next() {
-        panic!("{}\n  {difference}", case());
-    }
+    no_difference(differences, case);
 }
 
 pub fn read_table(bytes: &[u8]) -> Result<Table, Refusal> {
@@ -143,9 +165,7 @@ pub fn write_table(
     let case = || format!("write_table facts {facts} {columns:x?} goal {goal:x} out {out_len}");
     reached("write_table", expected[0]);
     same(ffi::write_table(facts, columns, goal, &mut library_out), expected, case);
-    if let Some(difference) = first_difference("out", &library_out, &out) {
-        panic!("{}\n  {difference}", case());
-    }
+    no_difference([first_difference("out", &library_out, &out)], case);
     (result, out)
 }
 
@@ -206,14 +226,21 @@ pub fn plan_shift(table: &[u8], lengths: Lengths, pattern: u64) -> (Result<Shift
     )
 }
 
+pub fn status_words(status: Status) -> (u64, u64) {
+    match status {
+        Status::Success => (ffi::SUCCESS, 0),
+        Status::Failure => (ffi::FAILURE, 0),
+        Status::Running(job) => (ffi::RUNNING, u64::from(job)),
+        Status::Unsettled(mask) => (ffi::UNSETTLED, mask),
+    }
+}
+
 pub fn tick_words(result: &Result<Ticked, Refusal>) -> [u64; 3] {
     match result {
-        Ok(ticked) => match ticked.status {
-            Status::Success => [0, ffi::SUCCESS, 0],
-            Status::Failure => [0, ffi::FAILURE, 0],
-            Status::Running(job) => [0, ffi::RUNNING, u64::from(job)],
-            Status::Unsettled(mask) => [0, ffi::UNSETTLED, mask],
-        },
+        Ok(ticked) => {
+            let (status, value) = status_words(ticked.status);
+            [0, status, value]
+        }
         Err(refusal) => refused(refusal),
     }
 }
@@ -229,6 +256,61 @@ pub fn tick(table: &[u8], tree: &[u8], held: u64, unread: u64) -> Result<Ticked,
     result
 }
 
+/// Elements past each row that is lent to a batch. Read, they would be refused, as facts, jobs and readings; written, they would be seen.
+const SPARE: usize = 3;
+
+fn with_spare<T: Copy>(row: &[T], spare: T) -> Vec<T> {
+    [row, &[spare; SPARE]].concat()
+}
+
+/// One tick of a batch, into rows of so many statuses and so many values.
+pub fn tick_all(table: &[u8], batch: Batch, answers: [usize; 2], pattern: u64) -> Result<BatchTicked, Refusal> {
+    let result = engine::tick_all(table, batch, answers[0].min(answers[1]));
+    let expected = match &result {
+        Ok(ticked) => [0, ticked.entries_read as u64],
+        Err(refusal) => refused(refusal),
+    };
+    let unwritten = Lent::filled([answers[1] + SPARE, 0, answers[0] + SPARE, 0, 0, 0], pattern);
+    let (mut statuses, mut values) = (unwritten.jobs, unwritten.conditions);
+    let (mut library_statuses, mut library_values) = (statuses.clone(), values.clone());
+    for (vehicle, status) in result.iter().flat_map(|ticked| &ticked.answers).enumerate() {
+        let (word, value) = status_words(*status);
+        (statuses[vehicle], values[vehicle]) = (word as u8, value);
+    }
+    let rows = BatchRows {
+        conditions: with_spare(batch.conditions, u64::MAX),
+        absences: with_spare(batch.absences, u64::MAX),
+        jobs: with_spare(batch.jobs, u8::MAX),
+        held: with_spare(batch.held, u64::MAX),
+        unread: with_spare(batch.unread, u64::MAX),
+    };
+    let copy = rows.clone();
+    let lent = Batch {
+        conditions: &copy.conditions[..batch.conditions.len()],
+        absences: &copy.absences[..batch.absences.len()],
+        jobs: &copy.jobs[..batch.jobs.len()],
+        held: &copy.held[..batch.held.len()],
+        unread: &copy.unread[..batch.unread.len()],
+    };
+    let table_copy = table.to_vec();
+    let case = || format!("tick_all table {} lent {} answers {answers:?}", hex(table), shown_batch(batch));
+    reached("tick_all", expected[0]);
+    let (lent_statuses, lent_values) = (&mut library_statuses[..answers[0]], &mut library_values[..answers[1]]);
+    same(ffi::tick_all(&table_copy, lent, lent_statuses, lent_values), expected, case);
+    same(table_copy.as_slice(), table, case);
+    let differences = [
+        first_difference("conditions", &copy.conditions, &rows.conditions),
+        first_difference("absences", &copy.absences, &rows.absences),
+        first_difference("jobs", &copy.jobs, &rows.jobs),
+        first_difference("held", &copy.held, &rows.held),
+        first_difference("unread", &copy.unread, &rows.unread),
+        first_difference("statuses", &library_statuses, &statuses),
+        first_difference("values", &library_values, &values),
+    ];
+    no_difference(differences, case);
+    result
+}
+
 pub fn newest_weaker(listed: &[u64], absences: &[u64], condition: Condition) -> Option<usize> {
     let found = engine::newest_part(listed, absences, condition);
     let expected = match found {
@@ -236,10 +318,7 @@ pub fn newest_weaker(listed: &[u64], absences: &[u64], condition: Condition) -> 
         None => [0, 0, 0],
     };
     let (listed_copy, absences_copy) = (listed.to_vec(), absences.to_vec());
-    let case = || {
-        let shown = |row: &[u64]| format!("{} masks {:x?}", row.len(), &row[..row.len().min(60)]);
-        format!("newest_weaker of {condition:x?} in {} with {}", shown(listed), shown(absences))
-    };
+    let case = || format!("newest_weaker of {condition:x?} in {} with {}", shown_row(listed), shown_row(absences));
     reached("newest_weaker", expected[0]);
     same(ffi::newest_weaker(&listed_copy, &absences_copy, condition), expected, case);
     same((listed_copy.as_slice(), absences_copy.as_slice()), (listed, absences), case);

@@ -1,6 +1,7 @@
 //! The groups of the comparison.
 
 pub mod checks;
+pub mod groups_batches;
 pub mod groups_cards;
 pub mod groups_plans;
 pub mod groups_searches;
@@ -41,6 +42,7 @@ pub fn groups() -> Vec<Group> {
         groups_plans::groups(),
         groups_shift::groups(),
         groups_ticks::groups(),
+        groups_batches::groups(),
         groups_cards::groups(),
     ];
     all.into_iter().flatten().flatten().collect()
