@@ -359,8 +359,9 @@ static void batches(void) {
     jobs[7] = 3;
     /* One entry too many for either table. */
     static uint64_t longer[BAY_MAX_ENTRIES + 1];
+    static uint64_t longer_absences[BAY_MAX_ENTRIES + 1];
     static uint8_t longer_jobs[BAY_MAX_ENTRIES + 1];
-    struct bay_list list = {longer, BAY_MAX_ENTRIES + 1, longer, 0};
+    struct bay_list list = {longer, BAY_MAX_ENTRIES + 1, longer_absences, 0};
     struct bay_batch batch = {yard_held, yard_unread, yard_statuses, yard_values, 4};
     REFUSED(bay_list_tick_all(table, list, longer_jobs, batch), BAY_BAD_TREE, 0);
     list.entries = BAY_MAX_ENTRIES;

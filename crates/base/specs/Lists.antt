@@ -7,7 +7,7 @@ use native.Mathlib.Nat.{not-suc-le-zero}
 use native.Mathlib.Numerals.{add-one}
 use native.Mathlib.Decide.{decLe}
 use native.Mathlib.Omega.{arith}
-use lib.ListN.{length, getD, drop, set, length-append, length-drop, List·getD-append}
+use lib.ListN.{length, getD, drop, set, length-append, List·getD-append}
 use lib.Seq.{getD-at, getD-drop, getD-append-add, drop-cons, drop-at, set-at, set-getD}
 
 map-snoc : {A B : Type 0} (h : A → B) (l : List A) (x : A) → map h (l ++ (x ∷ [])) ≡ map h l ++ (h x ∷ [])
@@ -45,14 +45,15 @@ getD-inside [] i d e h = absurd (omega arith)
 getD-inside (x ∷ l) zero d e h = refl
 getD-inside (x ∷ l) (suc i) d e h = getD-inside l i d e (omega arith)
 
--- a list with those values at its front: past them it is as it was
+-- a field of each element of a list, at the front of another list: past them it is as it was
+abbrev pub over : {A B : Type 0} → (A → B) → List A → List B → List B
+over field l xs = map field l ++ drop (length l) xs
+
+-- the same of the first values of a function
 abbrev pub overlay : {A : Type 0} → (ℕ → A) → ℕ → List A → List A
 overlay f n l = prefix f n ++ drop n l
 
 module _ {A : Type 0} (f : ℕ → A) (n : ℕ) (l : List A) where
-  pub overlay-length : n ≤ length l → length (overlay f n l) ≡ length l
-  overlay-length h = omega (arith, length-append (prefix f n) (drop n l), length-prefix f n, length-drop n l)
-
   pub overlay-front : (i : ℕ) (d : A) → i < n → getD (overlay f n l) i d ≡ f i
   overlay-front i d h = List·getD-append (prefix f n) (drop n l) d i (omega (arith, length-prefix f n)) ∙ getD-prefix f n i d h
 
@@ -91,44 +92,40 @@ overlay-stands f l d m (suc n) h k e =
     ]
 
 -- the sum of the first n values
-abbrev pub total : (ℕ → ℕ) → ℕ → ℕ
-total f zero = 0
-total f (suc n) = total f n + f n
+abbrev pub sum : (ℕ → ℕ) → ℕ → ℕ
+sum f zero = 0
+sum f (suc n) = sum f n + f n
 
 module _ (f : ℕ → ℕ) where
-  pub total-some : (n : ℕ) → 0 < total f n → (i : ℕ) × (i < n) × (0 < f i)
-  total-some zero h = absurd (omega arith)
-  total-some (suc n) h =
+  pub sum-some : (n : ℕ) → 0 < sum f n → (i : ℕ) × (i < n) × (0 < f i)
+  sum-some zero h = absurd (omega arith)
+  sum-some (suc n) h =
       elim (decLe 1 (f n)) [
         | yes l ↦ (n, omega arith, omega arith)
-        | no l ↦ let (i, k, p) = total-some n (omega arith) in (i, omega arith, p)
+        | no l ↦ let (i, k, p) = sum-some n (omega arith) in (i, omega arith, p)
       ]
 
-  pub total-none : (n : ℕ) → total f n ≡ 0 → (i : ℕ) → i < n → f i ≡ 0
-  total-none zero e i h = absurd (omega arith)
-  total-none (suc n) e i h =
+  pub sum-none : (n : ℕ) → sum f n ≡ 0 → (i : ℕ) → i < n → f i ≡ 0
+  sum-none zero e i h = absurd (omega arith)
+  sum-none (suc n) e i h =
       elim (decLe n i) [
         | yes l ↦ let same : n ≡ i = omega arith in let last : f n ≡ 0 = omega (arith, e) in rw (← same) last
-        | no l ↦ total-none n (omega (arith, e)) i (omega arith)
+        | no l ↦ sum-none n (omega (arith, e)) i (omega arith)
       ]
 
-  pub total-same : (g : ℕ → ℕ) (n : ℕ) → ((i : ℕ) → i < n → f i ≡ g i) → total f n ≡ total g n
-  total-same g zero h = refl
-  total-same g (suc n) h = rw (total-same g n (λ i l. h i (omega arith)), h n (omega arith))
+  pub sum-split : (g h : ℕ → ℕ) (n : ℕ) → ((i : ℕ) → i < n → f i ≡ g i + h i) → sum f n ≡ sum g n + sum h n
+  sum-split g h zero e = refl
+  sum-split g h (suc n) e = omega (arith, sum-split g h n (λ i l. e i (omega arith)), e n (omega arith))
 
-  pub total-sum : (g h : ℕ → ℕ) (n : ℕ) → ((i : ℕ) → i < n → f i ≡ g i + h i) → total f n ≡ total g n + total h n
-  total-sum g h zero e = refl
-  total-sum g h (suc n) e = omega (arith, total-sum g h n (λ i l. e i (omega arith)), e n (omega arith))
-
-  pub total-most : ((i : ℕ) → f i ≤ 1) → (n : ℕ) → total f n ≤ n
-  total-most h zero = omega arith
-  total-most h (suc n) = omega (arith, total-most h n, h n)
+  pub sum-most : ((i : ℕ) → f i ≤ 1) → (n : ℕ) → sum f n ≤ n
+  sum-most h zero = omega arith
+  sum-most h (suc n) = omega (arith, sum-most h n, h n)
 
   -- where the values are 0 the sum stands
-  pub total-stands : (m n : ℕ) → m ≤ n → ((i : ℕ) → m ≤ i → i < n → f i ≡ 0) → total f m ≡ total f n
-  total-stands m zero l h = let none : m ≡ 0 = omega arith in rw none
-  total-stands m (suc n) l h =
+  pub sum-stands : (m n : ℕ) → m ≤ n → ((i : ℕ) → m ≤ i → i < n → f i ≡ 0) → sum f m ≡ sum f n
+  sum-stands m zero l h = let none : m ≡ 0 = omega arith in rw none
+  sum-stands m (suc n) l h =
       elim (decLe m n) [
-        | yes k ↦ omega (arith, total-stands m n k (λ i a b. h i a (omega arith)), h n k (omega arith))
-        | no k ↦ let same : m ≡ suc n = omega arith in ap (total f) same
+        | yes k ↦ omega (arith, sum-stands m n k (λ i a b. h i a (omega arith)), h n k (omega arith))
+        | no k ↦ let same : m ≡ suc n = omega arith in ap (sum f) same
       ]

@@ -10,7 +10,7 @@ use lib.Dec.{leb, ltb}
 use borrow.Author.Tests.{eq-eqb, ne-eqb, le-leb, lt-leb}
 use Rattle.base.specs.Bools.{if_then_else_}
 use Rattle.base.specs.Lists.{length-prefix}
-use Rattle.refusal.specs.Checked.{accepted, refused, each}
+use Rattle.refusal.specs.Checked.{accepted, refused, checkedEach}
 use Rattle.refusal.specs.CheckedLaws.{each-passed, each-refused}
 use Rattle.reading.specs.declared.Reading.{Reading}
 use Rattle.reading.specs.Reading.{checkedAt}
@@ -84,11 +84,11 @@ module _ (facts jobs : ℕ) (conditions absences actions : List ℕ) where
   abbrev list : ℕ → List (Entry Condition)
   list n = treeEntries conditions absences actions n
 
-  pub entries-passed : (n : ℕ) → ((j : ℕ) → j < n → EntryPasses j) → accepted (list n) ≡ each (checkedEntry facts jobs) 0 (list n)
+  pub entries-passed : (n : ℕ) → ((j : ℕ) → j < n → EntryPasses j) → accepted (list n) ≡ checkedEach (checkedEntry facts jobs) 0 (list n)
   entries-passed n h = sym (each-passed (checkedEntry facts jobs) entry entry n (λ j l. passes j (h j l)))
 
   pub entry-refused : (n i : ℕ) → i < n → ((j : ℕ) → j < i → EntryPasses j) → entryFits facts jobs i (entry i .condition) (entry i .action) ≡ false
-      → refused 15 i ≡ each (checkedEntry facts jobs) 0 (list n)
+      → refused 15 i ≡ checkedEach (checkedEntry facts jobs) 0 (list n)
   entry-refused n i l h e = sym (each-refused (checkedEntry facts jobs) entry entry i 15 i (λ j m. passes j (h j m)) (rw e) n l)
 
   -- ---- the list
@@ -102,10 +102,10 @@ module _ (facts jobs : ℕ) (conditions absences actions : List ℕ) where
     unfolding checkedList
     list-long h = rw (length-prefix entry n, lt-leb n (maxEntries paired) h) (by-first (leb 1 n))
       where
-        by-first : (b : Bool) → refused 13 0 ≡ (if b && false then each (checkedEntry facts jobs) 0 (list n) else refused 13 0)
+        by-first : (b : Bool) → refused 13 0 ≡ (if b && false then checkedEach (checkedEntry facts jobs) 0 (list n) else refused 13 0)
         by-first true = refl
         by-first false = refl
 
-    pub list-sized : 1 ≤ n → n ≤ maxEntries paired → each (checkedEntry facts jobs) 0 (list n) ≡ checkedList paired facts jobs (list n)
+    pub list-sized : 1 ≤ n → n ≤ maxEntries paired → checkedEach (checkedEntry facts jobs) 0 (list n) ≡ checkedList paired facts jobs (list n)
     unfolding checkedList
     list-sized h k = rw (length-prefix entry n, le-leb 1 n h, le-leb n (maxEntries paired) k)

@@ -8,19 +8,19 @@ use mathlib.Core.List.{List}
 use lib.Dec.{eqb, leb, ltb}
 use lib.ListN.{length}
 use Rattle.base.specs.Bools.{if_then_else_}
-use Rattle.refusal.specs.Checked.{Checked, accepted, refused, refusedBy, each}
+use Rattle.refusal.specs.Checked.{Checked, accepted, refused, refusedBy, checkedEach}
 use Rattle.reading.specs.declared.Reading.{Reading}
 use Rattle.reading.specs.Reading.{checkedAt}
 use Rattle.conditions.specs.declared.Condition.{Condition}
 use Rattle.conditions.specs.Condition.{conditionWithin}
 use Rattle.planning.specs.Expansion.{Entry}
 use Rattle.planning.specs.Columns.{maxEntries}
-use Rattle.batch_checks.specs.declared.Judged.{Judged}
-use Rattle.batch_checks.specs.declared.Judged.the-variants as J
+use Rattle.batch_checks.specs.declared.BatchChecked.{BatchChecked}
+use Rattle.batch_checks.specs.declared.BatchChecked.the-variants as B
 
 -- 8, with the index of the vehicle
 abbrev pub checkedReadings : (facts : ℕ) → List Reading → Checked (List Reading)
-checkedReadings facts rs = each (checkedAt facts) 0 rs
+checkedReadings facts rs = checkedEach (checkedAt facts) 0 rs
 
 -- entry i of a list: entry 0 is reached by no job, and what stands there for one is not looked at
 unfoldable pub entryFits : (facts jobs : ℕ) → (i : ℕ) → Condition → (job : ℕ) → Bool
@@ -33,9 +33,9 @@ checkedEntry facts jobs i x = if entryFits facts jobs i (x .condition) (x .actio
 -- 13, then 15. Document 02, W10: "W4's list [is] at most 2,978".
 unfoldable pub checkedList : (paired : Bool) → (facts jobs : ℕ) → List (Entry Condition) → Checked (List (Entry Condition))
 checkedList paired facts jobs l =
-    if leb 1 (length l) && leb (length l) (maxEntries paired) then each (checkedEntry facts jobs) 0 l else refused 13 0
+    if leb 1 (length l) && leb (length l) (maxEntries paired) then checkedEach (checkedEntry facts jobs) 0 l else refused 13 0
 
 -- the answer of the code, of something that is given back as it is where it passes
-abbrev pub judgedOf : {A : Type 0} → A → Judged → Checked A
-judgedOf a J.Passed = accepted a
-judgedOf a (J.Refused x) = refusedBy x
+abbrev pub batchCheckedOf : {A : Type 0} → A → BatchChecked → Checked A
+batchCheckedOf a B.Sound = accepted a
+batchCheckedOf a (B.Refused x) = refusedBy x

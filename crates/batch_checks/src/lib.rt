@@ -9,27 +9,27 @@ use tree::Leaf;
 ghost use mathlib.Core.Path.{_≡_};
 ghost use Prim.Native.Nat.{_≤_};
 ghost use lib.ListN.{length};
-ghost use Rattle.refusal.specs.Checked.{each};
+ghost use Rattle.refusal.specs.Checked.{checkedEach};
 ghost use Rattle.planning.specs.Columns.{maxEntries};
 ghost use Rattle.flat.specs.TreeBytes.{treeEntries};
 ghost use Rattle.batch_walk.specs.Batch.{readingsOf};
-ghost use Rattle.batch_checks.specs.Checks.{checkedReadings, entryFits, checkedEntry, checkedList, judgedOf};
+ghost use Rattle.batch_checks.specs.Checks.{checkedReadings, entryFits, checkedEntry, checkedList, batchCheckedOf};
 
-pub enum Judged {
-    Passed,
+pub enum BatchChecked {
+    Sound,
     Refused(Refusal),
 }
 
-fn refuse(reason: Reason, place: usize) -> Judged
-    ensures { λ r. ⌜ r ≡ Judged.Refused (record { reason = reason; place = place }) ⌝ }
+fn refuse(reason: Reason, place: usize) -> BatchChecked
+    ensures { λ r. ⌜ r ≡ BatchChecked.Refused (record { reason = reason; place = place }) ⌝ }
 {
-    Judged::Refused(Refusal { reason, place })
+    BatchChecked::Refused(Refusal { reason, place })
 }
 
 // The readings of so many vehicles.
-pub fn check_readings(facts: u8, vehicles: usize, held: &[u64], unread: &[u64]) -> Judged
+pub fn check_readings(facts: u8, vehicles: usize, held: &[u64], unread: &[u64]) -> BatchChecked
     requires { ⌜ (vehicles ≤ length (now held)) × (vehicles ≤ length (now unread)) ⌝ }
-    ensures { λ r. ⌜ judgedOf (readingsOf (now (held .entry)) (now (unread .entry)) vehicles) r
+    ensures { λ r. ⌜ batchCheckedOf (readingsOf (now (held .entry)) (now (unread .entry)) vehicles) r
         ≡ checkedReadings facts (readingsOf (now (held .entry)) (now (unread .entry)) vehicles) ⌝ }
 {
     let mut left = vehicles;
@@ -41,14 +41,14 @@ pub fn check_readings(facts: u8, vehicles: usize, held: &[u64], unread: &[u64]) 
         };
         match reading::check_reading(facts, v, reading) {
             ReadingChecked::Refused(x) => {
-                return Judged::Refused(x);
+                return BatchChecked::Refused(x);
             }
             ReadingChecked::Sound(_) => {
                 left -= 1;
             }
         }
     }
-    Judged::Passed
+    BatchChecked::Sound
 }
 
 // Are the operands of an entry in range? The job of entry 0 is not looked at.
@@ -71,10 +71,10 @@ fn check_entries(
     conditions: &[u64],
     absences: &[u64],
     actions: &[u8],
-) -> Judged
+) -> BatchChecked
     requires { ⌜ n ≤ length (now actions) ⌝ }
-    ensures { λ r. ⌜ judgedOf (treeEntries (now (conditions .entry)) (now (absences .entry)) (now (actions .entry)) n) r
-        ≡ each (checkedEntry (header .facts) (header .jobs)) 0 (treeEntries (now (conditions .entry)) (now (absences .entry)) (now (actions .entry)) n) ⌝ }
+    ensures { λ r. ⌜ batchCheckedOf (treeEntries (now (conditions .entry)) (now (absences .entry)) (now (actions .entry)) n) r
+        ≡ checkedEach (checkedEntry (header .facts) (header .jobs)) 0 (treeEntries (now (conditions .entry)) (now (absences .entry)) (now (actions .entry)) n) ⌝ }
 {
     let facts = header.facts;
     let jobs = header.jobs;
@@ -86,7 +86,7 @@ fn check_entries(
         }
         i += 1;
     }
-    Judged::Passed
+    BatchChecked::Sound
 }
 
 // The most entries that a list may have.
@@ -106,9 +106,9 @@ pub fn check_list(
     conditions: &[u64],
     absences: &[u64],
     actions: &[u8],
-) -> Judged
+) -> BatchChecked
     requires { ⌜ n ≤ length (now actions) ⌝ }
-    ensures { λ r. ⌜ judgedOf (treeEntries (now (conditions .entry)) (now (absences .entry)) (now (actions .entry)) n) r
+    ensures { λ r. ⌜ batchCheckedOf (treeEntries (now (conditions .entry)) (now (absences .entry)) (now (actions .entry)) n) r
         ≡ checkedList (header .paired) (header .facts) (header .jobs)
         (treeEntries (now (conditions .entry)) (now (absences .entry)) (now (actions .entry)) n) ⌝ }
 {

@@ -6,7 +6,7 @@ use mathlib.Core.Bool.{Bool, true, false}
 use mathlib.Core.List.{List, [], map}
 use lib.ListN.{length, getD}
 use Rattle.base.specs.Bools.{if_then_else_}
-use Rattle.refusal.specs.Checked.{Checked, accepted, refused, refusedBy, andThen, each}
+use Rattle.refusal.specs.Checked.{Checked, accepted, refused, refusedBy, andThen, checkedEach}
 use Rattle.reading.specs.declared.Reading.{Reading}
 use Rattle.conditions.specs.declared.Condition.{Condition}
 use Rattle.table.specs.declared.Header.{Header}
@@ -19,7 +19,7 @@ use Rattle.tree.specs.Tick.{tickTree}
 use Rattle.tree.specs.TickBytes.{tickBytes, answered, isSettled, Settled}
 use Rattle.flat.specs.TreeBytes.{treeBytes, treeEntries}
 use Rattle.flat.specs.FlatTree.{treeOf}
-use Rattle.batch_walk.specs.Batch.{readingAt, readingsOf, Rows, answering, entriesRead}
+use Rattle.batch_walk.specs.Batch.{readingAt, readingsOf, AnswerRows, answering, entriesRead}
 use Rattle.batch_checks.specs.Checks.{checkedReadings, checkedList}
 use Rattle.batch_tick.specs.declared.BatchTicked.{BatchTicked}
 use Rattle.batch_tick.specs.declared.BatchTicked.the-variants as B
@@ -38,8 +38,8 @@ listLent paired conditions absences actions =
     treeEntries conditions (if paired then absences else []) actions (entriesLent paired (length conditions) (length absences) (length actions))
 
 -- "rows of held and unread masks, and gets a row of answers, as many as the shortest row has"
-unfoldable pub due : (held unread statuses values : ℕ) → ℕ
-due held unread statuses values = min (min held unread) (min statuses values)
+unfoldable pub vehiclesDue : (held unread statuses values : ℕ) → ℕ
+vehiclesDue held unread statuses values = min (min held unread) (min statuses values)
 
 -- ---- the call, of a table and of the readings due
 
@@ -55,7 +55,7 @@ abbrev pub treeOfLent : Lent → List ℕ
 treeOfLent x = treeBytes (x .paired) (x .list)
 
 -- the answers, and how many entries were read
-pub record Batch : Type 0 where
+pub record BatchAnswer : Type 0 where
   pub statuses : List Status
   pub read : ℕ
 
@@ -69,14 +69,14 @@ module _ (table conditions absences actions : List ℕ) (rs : List Reading) wher
       andThen (checkedList (x .paired) (t .facts) (length (t .jobs)) (x .list)) λ _. accepted x
 
   -- "Each answer is what a single tick gives on the tree of that list. The answer also counts the entries read".
-  unfoldable pub batchTicked : Checked Batch
+  unfoldable pub batchTicked : Checked BatchAnswer
   batchTicked =
       andThen checkedBatch λ x.
-      andThen (each (λ v r. answered (tickBytes table (treeOfLent x) r)) 0 rs) λ statuses.
+      andThen (checkedEach (λ v r. answered (tickBytes table (treeOfLent x) r)) 0 rs) λ statuses.
       accepted (record { statuses = statuses; read = entriesRead (x .list) rs })
 
 -- the same under a table that was read, with what its header tells of it, by the definition of the tick on the tree
-unfoldable pub batchUnder : Header → List (Entry Condition) → List Reading → Checked Batch
+unfoldable pub batchUnder : Header → List (Entry Condition) → List Reading → Checked BatchAnswer
 batchUnder header l rs =
     andThen (checkedReadings (header .facts) rs) λ _.
     andThen (checkedList (header .paired) (header .facts) (header .jobs) l) λ _.
@@ -89,13 +89,13 @@ batchTickedOf (B.Ticked read) = accepted read
 batchTickedOf (B.Refused x) = refusedBy x
 
 -- the answers are written; "Every other refused call .. writes to nothing that is lent"
-abbrev pub leftBy : Checked Batch → Rows → Rows
+abbrev pub leftBy : Checked BatchAnswer → AnswerRows → AnswerRows
 leftBy (accepted b) t = answering (b .statuses) t
 leftBy (refused number place) t = t
 
-pub record Leaves (batch : Checked Batch) (before after : Rows) (told : Checked ℕ) : Type 0 where
+pub record WritesAnswers (batch : Checked BatchAnswer) (before after : AnswerRows) (told : Checked ℕ) : Type 0 where
   pub answer : told ≡ (andThen batch λ b. accepted (b .read))
-  pub rows : after ≡ leftBy batch before
+  pub written : after ≡ leftBy batch before
 
 -- ---- the promise
 
@@ -105,13 +105,13 @@ pub record SingleTick (table tree : List ℕ) (r : Reading) (a : Status) : Type 
   pub settled : isSettled a ≡ true → Settled table tree r a
 
 module _ (table conditions absences actions held unread : List ℕ) where
-  pub record TicksVehicles (n : ℕ) (before after : Rows) (told : Checked ℕ) : Type 0 where
-    pub leaves : Leaves (batchTicked table conditions absences actions (readingsOf held unread n)) before after told
+  pub record TicksVehicles (n : ℕ) (before after : AnswerRows) (told : Checked ℕ) : Type 0 where
+    pub writes : WritesAnswers (batchTicked table conditions absences actions (readingsOf held unread n)) before after told
     -- Where nothing that is lent is to be refused no tick is, and each vehicle is answered.
     pub ticked : (x : Lent) → checkedBatch table conditions absences actions (readingsOf held unread n) ≡ accepted x
-        → (b : Batch) × (batchTicked table conditions absences actions (readingsOf held unread n) ≡ accepted b)
+        → (b : BatchAnswer) × (batchTicked table conditions absences actions (readingsOf held unread n) ≡ accepted b)
         × ((v : ℕ) → v < n → SingleTick table (treeOfLent x) (readingAt held unread v) (getD (b .statuses) v Failure))
 
   -- for as many vehicles as the shortest row has
-  abbrev pub TicksAll : (before after : Rows) (told : Checked ℕ) → Type 0
-  TicksAll before after told = TicksVehicles (due (length held) (length unread) (length (before .statuses)) (length (before .values))) before after told
+  abbrev pub TicksAll : (before after : AnswerRows) (told : Checked ℕ) → Type 0
+  TicksAll before after told = TicksVehicles (vehiclesDue (length held) (length unread) (length (before .statuses)) (length (before .values))) before after told

@@ -11,7 +11,7 @@ use lib.ListN.{length, getD, take}
 use borrow.Author.Tests.{ne-eqb}
 use Rattle.base.specs.Bools.{holds, and-left, and-right}
 use Rattle.base.specs.Lists.{prefix, length-prefix, getD-prefix, map-prefix}
-use Rattle.refusal.specs.Checked.{Checked, accepted, refused, each}
+use Rattle.refusal.specs.Checked.{Checked, accepted, refused, checkedEach}
 use Rattle.refusal.specs.CheckedLaws.{not-both, accepted-same, accepted-then, accepted-if, each-told, each-passed}
 use Rattle.numbers.specs.Numbers.{AreBytes}
 use Rattle.reading.specs.declared.Reading.{Reading}
@@ -37,9 +37,9 @@ use Rattle.flat.specs.FlatTreeLaws.{each-by-place, later-by-place}
 use Rattle.flat.specs.ReadBackLaws.{tick-read}
 use Rattle.expander.specs.Expands.{ifPaired}
 use Rattle.expander.specs.ExpandsLaws.{cut-paired}
-use Rattle.batch_walk.specs.Batch.{readingAt, readingsOf, Rows, entriesRead, Walks}
+use Rattle.batch_walk.specs.Batch.{readingAt, readingsOf, AnswerRows, entriesRead, Walks}
 use Rattle.batch_checks.specs.Checks.{checkedReadings, entryFits, checkedEntry, checkedList}
-use Rattle.batch_tick.specs.BatchTick.{entriesLent, listLent, due, Lent, lentTo, treeOfLent, Batch, checkedBatch, batchTicked, batchUnder, Leaves, SingleTick, TicksVehicles}
+use Rattle.batch_tick.specs.BatchTick.{entriesLent, listLent, vehiclesDue, Lent, lentTo, treeOfLent, BatchAnswer, checkedBatch, batchTicked, batchUnder, WritesAnswers, SingleTick, TicksVehicles}
 
 -- ---- lengths
 
@@ -61,13 +61,13 @@ module _ (conditions absences actions : ℕ) (paired : Bool) where
       by-kind true = omega arith
 
 module _ (held unread statuses values : ℕ) where
-  pub due-is : {masks answers : ℕ} → masks ≡ min held unread → answers ≡ min statuses values → min masks answers ≡ due held unread statuses values
-  unfolding due
+  pub due-is : {masks answers : ℕ} → masks ≡ min held unread → answers ≡ min statuses values → min masks answers ≡ vehiclesDue held unread statuses values
+  unfolding vehiclesDue
   due-is e f = rw (e, f)
 
-  pub due-few : (due held unread statuses values ≤ held) × (due held unread statuses values ≤ unread) × (due held unread statuses values ≤ statuses)
-      × (due held unread statuses values ≤ values)
-  unfolding due
+  pub due-few : (vehiclesDue held unread statuses values ≤ held) × (vehiclesDue held unread statuses values ≤ unread) × (vehiclesDue held unread statuses values ≤ statuses)
+      × (vehiclesDue held unread statuses values ≤ values)
+  unfolding vehiclesDue
   due-few = (omega arith, omega arith, omega arith, omega arith)
 
 -- the list, once its second masks are cut to those that count
@@ -81,9 +81,9 @@ module _ (paired : Bool) (facts jobs : ℕ) (l : List (Entry Condition)) (ys : L
   abbrev isSized : Bool
   isSized = leb 1 (length l) && leb (length l) (maxEntries paired)
 
-  sized : (isSized ≡ true) × (each (checkedEntry facts jobs) 0 l ≡ accepted ys)
+  sized : (isSized ≡ true) × (checkedEach (checkedEntry facts jobs) 0 l ≡ accepted ys)
   unfolding checkedList
-  sized = accepted-if isSized (each (checkedEntry facts jobs) 0 l) 13 0 ys e
+  sized = accepted-if isSized (checkedEach (checkedEntry facts jobs) 0 l) 13 0 ys e
 
   pub list-some : 1 ≤ length l
   list-some = leb→le 1 (length l) (and-left (leb 1 (length l)) (leb (length l) (maxEntries paired)) (holds isSized (sized .0)))
@@ -121,28 +121,28 @@ module _ (paired : Bool) (facts jobs : ℕ) (l : List (Entry Condition)) (ys : L
 
 -- ---- under a table that was read
 
-module _ (header : Header) (l : List (Entry Condition)) (rs : List Reading) (t : Rows) where
-  pub leaves-reading : (n p : ℕ) → refused n p ≡ checkedReadings (header .facts) rs → Leaves (batchUnder header l rs) t t (refused n p)
+module _ (header : Header) (l : List (Entry Condition)) (rs : List Reading) (t : AnswerRows) where
+  pub refused-reading : (n p : ℕ) → refused n p ≡ checkedReadings (header .facts) rs → WritesAnswers (batchUnder header l rs) t t (refused n p)
   unfolding batchUnder
-  leaves-reading n p e = record { answer = rw (← e); rows = rw (← e) }
+  refused-reading n p e = record { answer = rw (← e); written = rw (← e) }
 
   module _ (e : accepted rs ≡ checkedReadings (header .facts) rs) where
-    pub leaves-list : (n p : ℕ) → refused n p ≡ checkedList (header .paired) (header .facts) (header .jobs) l → Leaves (batchUnder header l rs) t t (refused n p)
+    pub refused-list : (n p : ℕ) → refused n p ≡ checkedList (header .paired) (header .facts) (header .jobs) l → WritesAnswers (batchUnder header l rs) t t (refused n p)
     unfolding batchUnder
-    leaves-list n p f = record { answer = rw (← e, ← f); rows = rw (← e, ← f) }
+    refused-list n p f = record { answer = rw (← e, ← f); written = rw (← e, ← f) }
 
-    pub leaves-walked : accepted l ≡ checkedList (header .paired) (header .facts) (header .jobs) l → {after : Rows} {read : ℕ} → Walks l rs t after read
-        → Leaves (batchUnder header l rs) t after (accepted read)
+    pub walked-answers : accepted l ≡ checkedList (header .paired) (header .facts) (header .jobs) l → {after : AnswerRows} {read : ℕ} → Walks l rs t after read
+        → WritesAnswers (batchUnder header l rs) t after (accepted read)
     unfolding batchUnder
-    leaves-walked f w = record { answer = rw (← e, ← f) (ap accepted (w .count)); rows = rw (← e, ← f) (w .answers (header .paired)) }
+    walked-answers f w = record { answer = rw (← e, ← f) (ap accepted (w .count)); written = rw (← e, ← f) (w .answers (header .paired)) }
 
 -- by what is lent
-pub leaves-lent : (header : Header) (conditions absences actions held unread : List ℕ) (due : ℕ) {n used vehicles : ℕ} {before after : Rows} {told : Checked ℕ}
-    → n ≡ entriesLent (header .paired) (length conditions) (length absences) (length actions) → used ≡ ifPaired (header .paired) (length absences) → vehicles ≡ due
-    → Leaves (batchUnder header (treeEntries conditions (take used absences) actions n) (readingsOf held unread vehicles)) before after told
-    → Leaves (batchUnder header (listLent (header .paired) conditions absences actions) (readingsOf held unread due)) before after told
-leaves-lent header conditions absences actions held unread due e f g leaves =
-    rw (lent-is (header .paired) conditions absences actions e f, g) at leaves
+pub writes-lent : (header : Header) (conditions absences actions held unread : List ℕ) (vehiclesDue : ℕ) {n used vehicles : ℕ} {before after : AnswerRows} {told : Checked ℕ}
+    → n ≡ entriesLent (header .paired) (length conditions) (length absences) (length actions) → used ≡ ifPaired (header .paired) (length absences) → vehicles ≡ vehiclesDue
+    → WritesAnswers (batchUnder header (treeEntries conditions (take used absences) actions n) (readingsOf held unread vehicles)) before after told
+    → WritesAnswers (batchUnder header (listLent (header .paired) conditions absences actions) (readingsOf held unread vehiclesDue)) before after told
+writes-lent header conditions absences actions held unread vehiclesDue e f g writes =
+    rw (lent-is (header .paired) conditions absences actions e f, g) at writes
 
 -- ---- from bytes
 
@@ -198,7 +198,7 @@ module _ (table : List ℕ) (bytes : AreBytes table) (t : Table) (read : readTab
     tick-answer : (v : ℕ) → v < n → answered (tickBytes table tree (vehicle v)) ≡ accepted (status v)
     tick-answer v h = ap answered (tick-is v h)
 
-    pub all-ticked : each (λ v r. answered (tickBytes table tree r)) 0 readings ≡ accepted (prefix status n)
+    pub all-ticked : checkedEach (λ v r. answered (tickBytes table tree r)) 0 readings ≡ accepted (prefix status n)
     all-ticked = each-passed (λ v r. answered (tickBytes table tree r)) vehicle status n (λ v h. tick-answer v h)
 
     -- so the call ends as it does under the table
@@ -237,7 +237,7 @@ module _ (table : List ℕ) (bytes : AreBytes table) (t : Table) (read : readTab
       by-readings (refused k p) r = rw (read, r)
 
   ticked : (y : Lent) → checkedBatch table conditions absences actions readings ≡ accepted y
-      → (b : Batch) × (batchTicked table conditions absences actions readings ≡ accepted b)
+      → (b : BatchAnswer) × (batchTicked table conditions absences actions readings ≡ accepted b)
       × ((v : ℕ) → v < n → SingleTick table (treeOfLent y) (vehicle v) (getD (b .statuses) v Failure))
   unfolding checkedBatch
   ticked y e =
@@ -246,20 +246,20 @@ module _ (table : List ℕ) (bytes : AreBytes table) (t : Table) (read : readTab
       (_, batch-ticked ys r zs c, λ v h. rw (← accepted-same same) (single-tick ys r zs c v h))
 
 module _ (table conditions absences actions held unread : List ℕ) (n : ℕ) where
-  pub ticks-refused : (number place : ℕ) → refused number place ≡ headed (readTable table) → (t : Rows)
+  pub ticks-refused : (number place : ℕ) → refused number place ≡ headed (readTable table) → (t : AnswerRows)
       → TicksVehicles table conditions absences actions held unread n t t (refused number place)
   unfolding batchTicked checkedBatch
   ticks-refused number place e t =
       let r = headed-refused (readTable table) e in
-      record { leaves = record { answer = rw (← r); rows = rw (← r) }; ticked = λ x f. absurd (not-both (rw (← r) at f)) }
+      record { writes = record { answer = rw (← r); written = rw (← r) }; ticked = λ x f. absurd (not-both (rw (← r) at f)) }
 
-  pub ticks-read : AreBytes table → (h : Header) → accepted h ≡ headed (readTable table) → {before after : Rows} {told : Checked ℕ}
-      → Leaves (batchUnder h (listLent (h .paired) conditions absences actions) (readingsOf held unread n)) before after told
+  pub ticks-read : AreBytes table → (h : Header) → accepted h ≡ headed (readTable table) → {before after : AnswerRows} {told : Checked ℕ}
+      → WritesAnswers (batchUnder h (listLent (h .paired) conditions absences actions) (readingsOf held unread n)) before after told
       → TicksVehicles table conditions absences actions held unread n before after told
-  ticks-read bytes h e {before} {after} {told} leaves =
+  ticks-read bytes h e {before} {after} {told} writes =
       let (t, read, same) = headed-sound (readTable table) e in
       record {
-        leaves = rw (batch-under table bytes t (sym read) conditions absences actions held unread n)
-            (subst (λ (k : Header). Leaves (batchUnder k (listLent (k .paired) conditions absences actions) (readingsOf held unread n)) before after told) (sym same) leaves);
+        writes = rw (batch-under table bytes t (sym read) conditions absences actions held unread n)
+            (subst (λ (k : Header). WritesAnswers (batchUnder k (listLent (k .paired) conditions absences actions) (readingsOf held unread n)) before after told) (sym same) writes);
         ticked = ticked table bytes t (sym read) conditions absences actions held unread n;
       }

@@ -1,5 +1,5 @@
 // The tick of a row of vehicles on one list (document 02, W4): what is lent is judged, then the list is walked once for all of them.
-use batch_checks::Judged;
+use batch_checks::BatchChecked;
 use refusal::Refusal;
 use table::Header;
 use table::TableRead;
@@ -7,8 +7,8 @@ ghost use mathlib.Core.Path.{_≡_};
 ghost use Prim.Native.Nat.{_≤_};
 ghost use lib.ListN.{length};
 ghost use Rattle.flat.specs.TreeBytes.{treeEntries};
-ghost use Rattle.batch_walk.specs.Batch.{readingsOf, rows};
-ghost use Rattle.batch_tick.specs.BatchTick.{entriesLent, listLent, due, batchUnder, batchTickedOf, Leaves, TicksAll};
+ghost use Rattle.batch_walk.specs.Batch.{readingsOf, answerRows};
+ghost use Rattle.batch_tick.specs.BatchTick.{entriesLent, listLent, vehiclesDue, batchUnder, batchTickedOf, WritesAnswers, TicksAll};
 
 pub enum BatchTicked {
     // So many entries were read.
@@ -29,7 +29,7 @@ fn entries_lent(paired: bool, conditions: usize, absences: usize, actions: usize
 
 // How many vehicles are answered, by the lengths of their rows.
 fn vehicles_due(held: usize, unread: usize, statuses: usize, values: usize) -> usize
-    ensures { λ r. ⌜ r ≡ due held unread statuses values ⌝ }
+    ensures { λ r. ⌜ r ≡ vehiclesDue held unread statuses values ⌝ }
 {
     numbers::lesser(
         numbers::lesser(held, unread),
@@ -52,17 +52,23 @@ fn tick_vehicles(
 ) -> BatchTicked
     requires { ⌜ (n ≤ length (now actions)) × (vehicles ≤ length (now held)) × (vehicles ≤ length (now unread))
         × (vehicles ≤ length (now statuses)) × (vehicles ≤ length (now values)) ⌝ }
-    ensures { λ r. ⌜ Leaves
+    ensures { λ r. ⌜ WritesAnswers
         (batchUnder header (treeEntries (now (conditions .entry)) (now (absences .entry)) (now (actions .entry)) n)
         (readingsOf (now (held .entry)) (now (unread .entry)) vehicles))
-        (rows (now (statuses .entry)) (now (values .entry))) (rows (now (statuses .exit)) (now (values .exit))) (batchTickedOf r) ⌝ }
+        (answerRows (now (statuses .entry)) (now (values .entry))) (answerRows (now (statuses .exit)) (now (values .exit))) (batchTickedOf r) ⌝ }
 {
     let facts = header.facts;
     match batch_checks::check_readings(facts, vehicles, held, unread) {
-        Judged::Refused(x) => BatchTicked::Refused(x),
-        Judged::Passed => match batch_checks::check_list(header, n, conditions, absences, actions) {
-            Judged::Refused(x) => BatchTicked::Refused(x),
-            Judged::Passed => BatchTicked::Ticked(batch_walk::walk_all(
+        BatchChecked::Refused(x) => BatchTicked::Refused(x),
+        BatchChecked::Sound => match batch_checks::check_list(
+            header,
+            n,
+            conditions,
+            absences,
+            actions,
+        ) {
+            BatchChecked::Refused(x) => BatchTicked::Refused(x),
+            BatchChecked::Sound => BatchTicked::Ticked(batch_walk::walk_all(
                 n,
                 conditions,
                 absences,
@@ -88,11 +94,11 @@ fn tick_under(
     statuses: &mut [u8],
     values: &mut [u64],
 ) -> BatchTicked
-    ensures { λ r. ⌜ Leaves
+    ensures { λ r. ⌜ WritesAnswers
         (batchUnder header (listLent (header .paired) (now (conditions .entry)) (now (absences .entry)) (now (actions .entry)))
         (readingsOf (now (held .entry)) (now (unread .entry))
-        (due (length (now (held .entry))) (length (now (unread .entry))) (length (now (statuses .entry))) (length (now (values .entry))))))
-        (rows (now (statuses .entry)) (now (values .entry))) (rows (now (statuses .exit)) (now (values .exit))) (batchTickedOf r) ⌝ }
+        (vehiclesDue (length (now (held .entry))) (length (now (unread .entry))) (length (now (statuses .entry))) (length (now (values .entry))))))
+        (answerRows (now (statuses .entry)) (now (values .entry))) (answerRows (now (statuses .exit)) (now (values .exit))) (batchTickedOf r) ⌝ }
 {
     let paired = header.paired;
     let n = entries_lent(paired, conditions.len(), absences.len(), actions.len());
@@ -125,7 +131,7 @@ pub fn tick_all(
     values: &mut [u64],
 ) -> BatchTicked
     ensures { λ r. ⌜ TicksAll (now (table .entry)) (now (conditions .entry)) (now (absences .entry)) (now (actions .entry)) (now (held .entry))
-        (now (unread .entry)) (rows (now (statuses .entry)) (now (values .entry))) (rows (now (statuses .exit)) (now (values .exit))) (batchTickedOf r) ⌝ }
+        (now (unread .entry)) (answerRows (now (statuses .entry)) (now (values .entry))) (answerRows (now (statuses .exit)) (now (values .exit))) (batchTickedOf r) ⌝ }
 {
     match table::read_table(table) {
         TableRead::Refused(x) => BatchTicked::Refused(x),

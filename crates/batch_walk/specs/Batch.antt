@@ -3,9 +3,9 @@
 use Prim.Native.Nat.{ℕ, suc, max}
 use mathlib.Core.Path.{_≡_}
 use mathlib.Core.Bool.{Bool}
-use mathlib.Core.List.{List, [], _∷_, _++_, map}
-use lib.ListN.{length, getD, drop}
-use Rattle.base.specs.Lists.{prefix}
+use mathlib.Core.List.{List, [], _∷_, map}
+use lib.ListN.{getD}
+use Rattle.base.specs.Lists.{prefix, over}
 use Rattle.reading.specs.declared.Reading.{Reading}
 use Rattle.conditions.specs.declared.Evaluation.the-variants.{Met, Missed, Open}
 use Rattle.conditions.specs.declared.Condition.{Condition}
@@ -27,16 +27,16 @@ readingsOf held unread n = prefix (readingAt held unread) n
 
 -- ---- answers: a row of statuses, and one of the job or mask that comes with each
 
-pub record Rows : Type 0 where
+pub record AnswerRows : Type 0 where
   pub statuses : List ℕ
   pub values : List ℕ
 
-abbrev pub rows : List ℕ → List ℕ → Rows
-rows statuses values = record { statuses = statuses; values = values }
+abbrev pub answerRows : List ℕ → List ℕ → AnswerRows
+answerRows statuses values = record { statuses = statuses; values = values }
 
 -- rows with the answers written to their fronts: "nothing past the results due is written"
-abbrev pub answering : List Status → Rows → Rows
-answering l t = rows (map statusNumber l ++ drop (length l) (t .statuses)) (map statusValue l ++ drop (length l) (t .values))
+abbrev pub answering : List Status → AnswerRows → AnswerRows
+answering l t = answerRows (over statusNumber l (t .statuses)) (over statusValue l (t .values))
 
 -- ---- entries read
 
@@ -57,7 +57,7 @@ entriesRead l (r ∷ rs) = max (readBy r l) (entriesRead l rs)
 
 -- ---- the walk
 
-pub record Walks (l : List (Entry Condition)) (rs : List Reading) (before after : Rows) (read : ℕ) : Type 0 where
+pub record Walks (l : List (Entry Condition)) (rs : List Reading) (before after : AnswerRows) (read : ℕ) : Type 0 where
   -- "Each answer is what a single tick gives on the tree of that list", whether its conditions are written with one mask or with both
   pub answers : (paired : Bool) → after ≡ answering (map (λ r. tickTree r (treeOf paired l) .answer) rs) before
   -- "The answer also counts the entries read, each at most once"

@@ -2,13 +2,12 @@
 -- Definitions only.
 use Prim.Native.Nat.{ℕ, zero, suc, _≤_, _<_}
 use mathlib.Core.Path.{_≡_}
-use mathlib.Core.Bool.{Bool, true, false, not}
-use mathlib.Core.Logic.{_⊎_}
+use mathlib.Core.Bool.{Bool, true, false, not, _&&_}
 use mathlib.Core.List.{List}
 use lib.Dec.{eqb}
 use lib.ListN.{getD, set}
 use Rattle.base.specs.Bools.{if_then_else_}
-use Rattle.base.specs.Lists.{overlay, total}
+use Rattle.base.specs.Lists.{overlay, sum}
 use Rattle.masks.specs.Sets.{subset, union}
 use Rattle.reading.specs.declared.Reading.{Reading}
 use Rattle.conditions.specs.declared.Evaluation.{Evaluation}
@@ -19,24 +18,24 @@ use Rattle.conditions.specs.OnReading.{evaluated}
 use Rattle.tree.specs.declared.Status.{Status}
 use Rattle.tree.specs.declared.Status.the-variants.{Success, Failure, Running, Unsettled}
 use Rattle.tree.specs.StatusNumbers.{statusNumber, statusValue}
-use Rattle.batch_walk.specs.declared.Answer.{Answer}
-use Rattle.batch_walk.specs.Batch.{readingAt, Rows, rows}
+use Rattle.batch_walk.specs.declared.Numbered.{Numbered}
+use Rattle.batch_walk.specs.Batch.{readingAt, AnswerRows, answerRows}
 
 -- ---- answers in numbers
 
-abbrev pub answerOf : Status → Answer
-answerOf a = record { status = statusNumber a; value = statusValue a }
+abbrev pub numbered : Status → Numbered
+numbered a = record { status = statusNumber a; value = statusValue a }
 
 -- what stands for vehicle v
-abbrev pub answerAt : Rows → ℕ → Answer
-answerAt t v = record { status = getD (t .statuses) v 0; value = getD (t .values) v 0 }
+abbrev pub numberedAt : AnswerRows → ℕ → Numbered
+numberedAt t v = record { status = getD (t .statuses) v 0; value = getD (t .values) v 0 }
 
-abbrev pub setAnswer : Rows → ℕ → Answer → Rows
-setAnswer t v a = rows (set (t .statuses) v (a .status)) (set (t .values) v (a .value))
+abbrev pub setNumbered : AnswerRows → ℕ → Numbered → AnswerRows
+setNumbered t v a = answerRows (set (t .statuses) v (a .status)) (set (t .values) v (a .value))
 
 -- the answers of the first n vehicles
-abbrev pub overRows : (ℕ → Answer) → ℕ → Rows → Rows
-overRows f n t = rows (overlay (λ v. f v .status) n (t .statuses)) (overlay (λ v. f v .value) n (t .values))
+abbrev pub overRows : (ℕ → Numbered) → ℕ → AnswerRows → AnswerRows
+overRows f n t = answerRows (overlay (λ v. f v .status) n (t .statuses)) (overlay (λ v. f v .value) n (t .values))
 
 -- ---- one entry
 
@@ -45,14 +44,14 @@ abbrev pub metAt : ℕ → ℕ → Status
 metAt zero job = Success
 metAt (suc i) job = Running job
 
-abbrev pub goesOn : Answer → Bool
-goesOn a = eqb (a .status) (statusNumber Failure)
+abbrev pub isGoing : Numbered → Bool
+isGoing a = eqb (a .status) (statusNumber Failure)
 
 -- a vehicle that goes on takes the entry's answer; it still goes on if it missed the condition
-abbrev pub asked : Answer → Answer → Evaluation → Answer
+abbrev pub asked : Numbered → Numbered → Evaluation → Numbered
 asked met a Met = met
 asked met a Missed = a
-asked met a (Open mask) = answerOf (Unsettled mask)
+asked met a (Open mask) = numbered (Unsettled mask)
 
 abbrev pub isMissed : Evaluation → Bool
 isMissed Met = false
@@ -65,33 +64,44 @@ oneIf false = 0
 
 module _ (c : Condition) where
   -- does it stop there?
-  unfoldable pub stops : Reading → Answer → ℕ
-  stops r a = if goesOn a then oneIf (not (isMissed (evaluated r c))) else 0
+  unfoldable pub stops : Reading → Numbered → ℕ
+  stops r a = if isGoing a then oneIf (not (isMissed (evaluated r c))) else 0
 
-  module _ (met : Answer) where
+  module _ (met : Numbered) where
     -- one that stopped before keeps its answer
-    unfoldable pub stepped : Reading → Answer → Answer
-    stepped r a = if goesOn a then asked met a (evaluated r c) else a
+    unfoldable pub stepped : Reading → Numbered → Numbered
+    stepped r a = if isGoing a then asked met a (evaluated r c) else a
 
     -- one vehicle of the rows; the answer is 1 if it stops, and else 0
-    pub record Asks (r : Reading) (v : ℕ) (before after : Rows) (stopped : ℕ) : Type 0 where
-      pub answer : after ≡ setAnswer before v (stepped r (answerAt before v))
-      pub count : stopped ≡ stops r (answerAt before v)
+    pub record Asks (r : Reading) (v : ℕ) (before after : AnswerRows) (stopped : ℕ) : Type 0 where
+      pub answer : after ≡ setNumbered before v (stepped r (numberedAt before v))
+      pub count : stopped ≡ stops r (numberedAt before v)
 
     -- the first n vehicles; the answer is how many of them stop
-    pub record AsksAll (held unread : List ℕ) (n : ℕ) (before after : Rows) (stopped : ℕ) : Type 0 where
-      pub answers : after ≡ overRows (λ v. stepped (readingAt held unread v) (answerAt before v)) n before
-      pub count : stopped ≡ total (λ v. stops (readingAt held unread v) (answerAt before v)) n
+    pub record AsksAll (held unread : List ℕ) (n : ℕ) (before after : AnswerRows) (stopped : ℕ) : Type 0 where
+      pub answers : after ≡ overRows (λ v. stepped (readingAt held unread v) (numberedAt before v)) n before
+      pub count : stopped ≡ sum (λ v. stops (readingAt held unread v) (numberedAt before v)) n
 
--- An entry changes nothing for a vehicle that stopped, nor for one that is read to lack a fact of its first mask.
-abbrev pub Idle : ℕ → Reading → ℕ → Type 0
-Idle present r status = (status ≡ statusNumber Failure → ⊥) ⊎ (subset present (union (r .held) (r .unread)) ≡ false)
+-- the vehicle goes on, and is not read to lack a fact of an entry's first mask: only then the entry changes something for it
+unfoldable pub mayMeet : ℕ → Reading → ℕ → Bool
+mayMeet present r status = eqb status (statusNumber Failure) && subset present (union (r .held) (r .unread))
 
--- the vehicles from one on, up to the answer, are such
-pub record PassesOver (present : ℕ) (held unread statuses : List ℕ) (first n next : ℕ) : Type 0 where
+-- the next such vehicle, from one on, of the first n; n where there is none
+pub record NextAsked (present : ℕ) (held unread statuses : List ℕ) (first n next : ℕ) : Type 0 where
   pub onward : first ≤ next
   pub inside : next ≤ n
-  pub idle : (v : ℕ) → first ≤ v → v < next → Idle present (readingAt held unread v) (getD statuses v 0)
+  pub passed : (v : ℕ) → first ≤ v → v < next → mayMeet present (readingAt held unread v) (getD statuses v 0) ≡ false
+  pub found : next < n → mayMeet present (readingAt held unread next) (getD statuses next 0) ≡ true
+
+-- ---- what the walk keeps
+
+module _ (c : Condition) (met : Numbered) (held unread : List ℕ) (t : AnswerRows) where
+  -- what vehicle v comes to by an entry, and whether it stops there
+  abbrev pub afterEntry : ℕ → Numbered
+  afterEntry v = stepped c met (readingAt held unread v) (numberedAt t v)
+
+  abbrev pub stopsAt : ℕ → ℕ
+  stopsAt v = stops c (readingAt held unread v) (numberedAt t v)
 
 -- ---- the entries so far
 
@@ -119,3 +129,15 @@ module _ (conditions absences actions : List ℕ) (r : Reading) where
   unfoldable pub answerAfter : ℕ → Status
   answerAfter zero = Failure
   answerAfter (suc n) = nextStatus (metAt n (getD actions n 0)) (evaluated r (conditionAt conditions absences n)) (answerAfter n)
+
+module _ (conditions absences actions held unread : List ℕ) where
+  -- the same of vehicle v
+  abbrev pub statusAfter : ℕ → ℕ → Status
+  statusAfter n v = answerAfter conditions absences actions (readingAt held unread v) n
+
+  -- the rows after n entries, of so many vehicles, and how many of them go on
+  abbrev pub rowsAfter : ℕ → ℕ → AnswerRows → AnswerRows
+  rowsAfter n vehicles t = overRows (λ v. numbered (statusAfter n v)) vehicles t
+
+  abbrev pub goingAfter : ℕ → ℕ → ℕ
+  goingAfter n vehicles = sum (λ v. oneIf (isFailure (statusAfter n v))) vehicles

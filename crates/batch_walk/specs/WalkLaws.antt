@@ -7,7 +7,7 @@ use mathlib.Core.Path.{_≡_, refl, sym, ap, _∙_, subst}
 use mathlib.Core.Bool.{Bool, true, false, false≢true}
 use mathlib.Core.List.{List, [], _∷_, _++_}
 use lib.ListN.{length, getD, drop}
-use Rattle.base.specs.Lists.{prefix, length-prefix, getD-prefix, map-prefix, prefix-same, total-some, total-none}
+use Rattle.base.specs.Lists.{prefix, length-prefix, getD-prefix, map-prefix, prefix-same, sum-some, sum-none}
 use Rattle.reading.specs.declared.Reading.{Reading}
 use Rattle.conditions.specs.declared.Evaluation.{Evaluation}
 use Rattle.conditions.specs.declared.Evaluation.the-variants.{Met, Missed, Open}
@@ -25,9 +25,8 @@ use Rattle.flat.specs.TreeBytesLaws.{entries-split, later-suc}
 use Rattle.flat.specs.FlatTree.{treeOf}
 use Rattle.flat.specs.FlatTick.{laterVerdict, listVerdict}
 use Rattle.flat.specs.FlatTickLaws.{tree-ticked}
-use Rattle.batch_walk.specs.Batch.{readingAt, readingsOf, Rows, answering, readBy, entriesRead, Walks}
-use Rattle.batch_walk.specs.Steps.{oneIf, answerOf, overRows, metAt, isMissed, nextStatus, isFailure, answerAfter}
-use Rattle.batch_walk.specs.StepLaws.{rowsAfter, goingAfter}
+use Rattle.batch_walk.specs.Batch.{readingAt, readingsOf, AnswerRows, answering, readBy, entriesRead, Walks}
+use Rattle.batch_walk.specs.Steps.{oneIf, numbered, overRows, metAt, isMissed, nextStatus, isFailure, answerAfter, rowsAfter, goingAfter}
 
 -- ---- the answers
 
@@ -168,7 +167,7 @@ module _ (r : Reading) where
       by-condition (Open k) e h = rw (e, readBy) (omega arith)
 
 -- answers in numbers, in the rows and in a list
-answering-rows : (f : ℕ → Status) (n : ℕ) (t : Rows) → overRows (λ v. answerOf (f v)) n t ≡ answering (prefix f n) t
+answering-rows : (f : ℕ → Status) (n : ℕ) (t : AnswerRows) → overRows (λ v. numbered (f v)) n t ≡ answering (prefix f n) t
 answering-rows f n t = rw (map-prefix f statusNumber n, map-prefix f statusValue n, length-prefix f n)
 
 -- all vehicles read as many entries as one of them, and no more than each of them may
@@ -279,7 +278,7 @@ module _ (conditions absences actions : List ℕ) where
     -- while one goes on, the next entry is read
     pub going-reads : (i : ℕ) → i < n → 0 < goingAfter conditions absences actions held unread i vehicles → i + 1 ≤ entriesRead list readings
     going-reads i h e =
-        let (v, inside, one) = total-some _ vehicles e in
+        let (v, inside, one) = sum-some _ vehicles e in
         let failed : isFailure (answerAfter conditions absences actions (vehicle v) i) ≡ true = some-one _ one in
         let more = read-more (vehicle v) list i (entry 0) (omega (arith, length-prefix entry n))
         (λ j k. rw (list-at j (omega arith)) (after-failed (vehicle v) i failed j k)) in
@@ -291,12 +290,12 @@ module _ (conditions absences actions : List ℕ) where
 
     pub stopped-reads : (i : ℕ) → i ≤ n → goingAfter conditions absences actions held unread i vehicles ≡ 0 → entriesRead list readings ≤ i
     stopped-reads i h e = each-of i (λ v inside.
-        let (j, k, m) = after-stopped (vehicle v) i (no-one _ (total-none _ vehicles e v inside)) in
+        let (j, k, m) = after-stopped (vehicle v) i (no-one _ (sum-none _ vehicles e v inside)) in
         omega (arith, read-stop (vehicle v) list j (entry 0) (omega (arith, length-prefix entry n)) (rw (list-at j (omega arith)) m)))
 
     -- ---- the walk has ended after i entries: all of them, or no vehicle goes on
 
-    module _ (some : 1 ≤ n) (t : Rows) {now : Rows} {i : ℕ} (few : i ≤ n) (e : now ≡ rowsAfter conditions absences actions held unread i vehicles t)
+    module _ (some : 1 ≤ n) (t : AnswerRows) {now : AnswerRows} {i : ℕ} (few : i ≤ n) (e : now ≡ rowsAfter conditions absences actions held unread i vehicles t)
         (read : i ≤ entriesRead list readings) (last : (v : ℕ) → v < vehicles → answerAfter conditions absences actions (vehicle v) i ≡ answerAfter conditions absences actions (vehicle v) n)
         (most : entriesRead list readings ≤ i) where
       ended : Walks list readings t now i
@@ -310,7 +309,7 @@ module _ (conditions absences actions : List ℕ) where
             count = omega arith;
           }
 
-    module _ (some : 1 ≤ n) (t : Rows) {now : Rows} {i : ℕ} (few : i ≤ n) (e : now ≡ rowsAfter conditions absences actions held unread i vehicles t)
+    module _ (some : 1 ≤ n) (t : AnswerRows) {now : AnswerRows} {i : ℕ} (few : i ≤ n) (e : now ≡ rowsAfter conditions absences actions held unread i vehicles t)
         (read : i ≤ entriesRead list readings) where
       pub walked-all : i ≡ n → Walks list readings t now n
       walked-all is =
@@ -319,4 +318,4 @@ module _ (conditions absences actions : List ℕ) where
 
       pub walked-on : goingAfter conditions absences actions held unread i vehicles ≡ 0 → Walks list readings t now i
       walked-on stopped =
-          ended some t few e read (λ v h. after-stays (vehicle v) i n few (no-one _ (total-none _ vehicles stopped v h))) (stopped-reads i few stopped)
+          ended some t few e read (λ v h. after-stays (vehicle v) i n few (no-one _ (sum-none _ vehicles stopped v h))) (stopped-reads i few stopped)

@@ -1,20 +1,20 @@
-// One walk over a list of entries for a row of vehicles (document 02, W4): each entry is fetched once, and asked of every vehicle that failed all
-// entries before it. A vehicle's answer so far stands in two lent rows; Failure is the mark of one that goes on.
+// One walk over a list of entries for a row of vehicles (document 02, W4): each entry is fetched once, and asked of the vehicles that failed all
+// entries before it, but for those that are read to lack a fact of its first mask. A vehicle's answer so far stands in two lent rows; Failure is the
+// mark of one that goes on.
 use conditions::Condition;
 use conditions::Evaluation;
 use reading::Reading;
 ghost use mathlib.Core.Path.{_≡_};
-ghost use mathlib.Core.Bool.{true, false};
 ghost use Prim.Native.Nat.{_≤_, _<_};
 ghost use lib.ListN.{length, getD};
 ghost use Rattle.tree.specs.declared.Status.the-variants.{Failure};
 ghost use Rattle.tree.specs.StatusNumbers.{statusNumber};
 ghost use Rattle.flat.specs.TreeBytes.{treeEntries};
-ghost use Rattle.batch_walk.specs.Batch.{readingAt, readingsOf, rows, Walks};
-ghost use Rattle.batch_walk.specs.Steps.{answerOf, metAt, overRows, Asks, AsksAll, Idle, PassesOver};
+ghost use Rattle.batch_walk.specs.Batch.{readingAt, readingsOf, answerRows, Walks};
+ghost use Rattle.batch_walk.specs.Steps.{numbered, metAt, overRows, Asks, AsksAll, mayMeet, NextAsked};
 
 // A status and the job or mask that comes with it, as they stand in the rows of answers.
-pub struct Answer {
+pub struct Numbered {
     pub status: u8,
     pub value: u64,
 }
@@ -28,18 +28,18 @@ const RUNNING: u8 = 2;
 const UNSETTLED: u8 = 3;
 
 // What a tick answers where the condition of an entry is met.
-fn met_at(actions: &[u8], entry: usize) -> Answer
+fn met_at(actions: &[u8], entry: usize) -> Numbered
     requires { ⌜ entry < length (now actions) ⌝ }
-    ensures { λ r. ⌜ r ≡ answerOf (metAt entry (getD (now (actions .entry)) entry 0)) ⌝ }
+    ensures { λ r. ⌜ r ≡ numbered (metAt entry (getD (now (actions .entry)) entry 0)) ⌝ }
 {
     if entry == 0 {
-        return Answer {
+        return Numbered {
             status: SUCCESS,
             value: 0,
         };
     }
     let job = actions[entry];
-    Answer {
+    Numbered {
         status: RUNNING,
         value: job as u64,
     }
@@ -48,7 +48,7 @@ fn met_at(actions: &[u8], entry: usize) -> Answer
 // Every vehicle goes on.
 fn start_all(vehicles: usize, statuses: &mut [u8], values: &mut [u64])
     requires { ⌜ (vehicles ≤ length (now statuses)) × (vehicles ≤ length (now values)) ⌝ }
-    ensures { λ _. ⌜ rows (now (statuses .exit)) (now (values .exit)) ≡ overRows (λ v. answerOf Failure) vehicles (rows (now (statuses .entry)) (now (values .entry))) ⌝ }
+    ensures { λ _. ⌜ answerRows (now (statuses .exit)) (now (values .exit)) ≡ overRows (λ v. numbered Failure) vehicles (answerRows (now (statuses .entry)) (now (values .entry))) ⌝ }
 {
     let mut v: usize = 0;
     while v < vehicles {
@@ -58,11 +58,10 @@ fn start_all(vehicles: usize, statuses: &mut [u8], values: &mut [u64])
     }
 }
 
-// Does a vehicle go on, and is it not read to lack a fact that is to hold?
+// Does a vehicle go on, and is it not read to lack a fact of an entry's first mask?
 fn may_meet(present: u64, v: usize, held: &[u64], unread: &[u64], statuses: &[u8]) -> bool
     requires { ⌜ (v < length (now held)) × (v < length (now unread)) × (v < length (now statuses)) ⌝ }
-    ensures { λ r. ⌜ (r ≡ false → Idle present (readingAt (now (held .entry)) (now (unread .entry)) v) (getD (now (statuses .entry)) v 0))
-        × (r ≡ true → getD (now (statuses .entry)) v 0 ≡ statusNumber Failure) ⌝ }
+    ensures { λ r. ⌜ r ≡ mayMeet present (readingAt (now (held .entry)) (now (unread .entry)) v) (getD (now (statuses .entry)) v 0) ⌝ }
 {
     if statuses[v] != FAILURE {
         return false;
@@ -70,7 +69,7 @@ fn may_meet(present: u64, v: usize, held: &[u64], unread: &[u64], statuses: &[u8
     masks::is_subset(present, masks::join(held[v], unread[v]))
 }
 
-// The next vehicle, from one on, that goes on and is not read to lack a fact of an entry's first mask: most are passed over here.
+// The next such vehicle, from one on: most are passed over here.
 fn next_asked(
     present: u64,
     first: usize,
@@ -80,8 +79,7 @@ fn next_asked(
     statuses: &[u8],
 ) -> usize
     requires { ⌜ (first ≤ vehicles) × (vehicles ≤ length (now held)) × (vehicles ≤ length (now unread)) × (vehicles ≤ length (now statuses)) ⌝ }
-    ensures { λ r. ⌜ PassesOver present (now (held .entry)) (now (unread .entry)) (now (statuses .entry)) first vehicles r
-        × (r < vehicles → getD (now (statuses .entry)) r 0 ≡ statusNumber Failure) ⌝ }
+    ensures { λ r. ⌜ NextAsked present (now (held .entry)) (now (unread .entry)) (now (statuses .entry)) first vehicles r ⌝ }
 {
     let mut v = first;
     while v < vehicles {
@@ -96,7 +94,7 @@ fn next_asked(
 // Asks an entry of one vehicle that goes on. How many stop there: 1 or 0?
 fn ask(
     condition: Condition,
-    met: Answer,
+    met: Numbered,
     v: usize,
     held: &[u64],
     unread: &[u64],
@@ -106,7 +104,7 @@ fn ask(
     requires { ⌜ (v < length (now held)) × (v < length (now unread)) × (v < length (now statuses)) × (v < length (now values))
         × (getD (now statuses) v 0 ≡ statusNumber Failure) ⌝ }
     ensures { λ r. ⌜ Asks condition met (readingAt (now (held .entry)) (now (unread .entry)) v) v
-        (rows (now (statuses .entry)) (now (values .entry))) (rows (now (statuses .exit)) (now (values .exit))) r ⌝ }
+        (answerRows (now (statuses .entry)) (now (values .entry))) (answerRows (now (statuses .exit)) (now (values .exit))) r ⌝ }
 {
     let own_held = held[v];
     let own_unread = unread[v];
@@ -129,10 +127,10 @@ fn ask(
     }
 }
 
-// Asks an entry of every vehicle that goes on. How many stop there?
+// Asks an entry of the vehicles that go on, but for those that it cannot stop. How many stop there?
 fn ask_all(
     condition: Condition,
-    met: Answer,
+    met: Numbered,
     vehicles: usize,
     held: &[u64],
     unread: &[u64],
@@ -141,7 +139,7 @@ fn ask_all(
 ) -> usize
     requires { ⌜ (vehicles ≤ length (now held)) × (vehicles ≤ length (now unread)) × (vehicles ≤ length (now statuses)) × (vehicles ≤ length (now values)) ⌝ }
     ensures { λ r. ⌜ AsksAll condition met (now (held .entry)) (now (unread .entry)) vehicles
-        (rows (now (statuses .entry)) (now (values .entry))) (rows (now (statuses .exit)) (now (values .exit))) r ⌝ }
+        (answerRows (now (statuses .entry)) (now (values .entry))) (answerRows (now (statuses .exit)) (now (values .exit))) r ⌝ }
 {
     let present = condition.present;
     let mut stopped: usize = 0;
@@ -169,7 +167,7 @@ pub fn walk_all(
         × (vehicles ≤ length (now statuses)) × (vehicles ≤ length (now values)) ⌝ }
     ensures { λ r. ⌜ Walks (treeEntries (now (conditions .entry)) (now (absences .entry)) (now (actions .entry)) n)
         (readingsOf (now (held .entry)) (now (unread .entry)) vehicles)
-        (rows (now (statuses .entry)) (now (values .entry))) (rows (now (statuses .exit)) (now (values .exit))) r ⌝ }
+        (answerRows (now (statuses .entry)) (now (values .entry))) (answerRows (now (statuses .exit)) (now (values .exit))) r ⌝ }
 {
     start_all(vehicles, statuses, values);
     if vehicles == 0 {

@@ -2,7 +2,7 @@
 // input.
 use batch_tick::BatchTicked;
 ghost use mathlib.Core.Path.{_≡_};
-ghost use Rattle.batch_walk.specs.Batch.{rows};
+ghost use Rattle.batch_walk.specs.Batch.{answerRows};
 ghost use Rattle.batch_tick.specs.BatchTick.{batchTickedOf};
 ghost use Rattle.bay_words.specs.Words.{words};
 ghost use Rattle.bay_batch.specs.BatchWords.{readWords, BatchAnswered};
@@ -29,7 +29,7 @@ pub extern "C" fn bay_tick_all(
     answer: &mut [u64; 2],
 ) -> u64
     ensures { λ r. ⌜ BatchAnswered (now (table .entry)) (now (conditions .entry)) (now (absences .entry)) (now (jobs .entry)) (now (held .entry))
-        (now (unread .entry)) (rows (now (statuses .entry)) (now (values .entry))) (rows (now (statuses .exit)) (now (values .exit)))
+        (now (unread .entry)) (answerRows (now (statuses .entry)) (now (values .entry))) (answerRows (now (statuses .exit)) (now (values .exit)))
         (now (answer .exit)) r ⌝ }
 {
     let ticked = batch_words(batch_tick::tick_all(

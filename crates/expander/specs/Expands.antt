@@ -2,11 +2,12 @@
 -- Definitions only.
 use mathlib.Core.Path.{_≡_}
 use mathlib.Core.Bool.{Bool, true, false, not}
-use mathlib.Core.List.{List, [], _++_, map}
+use mathlib.Core.List.{List, []}
 use Prim.Native.Nat.{ℕ, min}
 use lib.Dec.{T}
-use lib.ListN.{length, drop}
+use lib.ListN.{length}
 use Rattle.base.specs.Bools.{if_then_else_}
+pub use Rattle.base.specs.Lists.{over}
 use Rattle.refusal.specs.Checked.{Checked, accepted, refused, andThen}
 use Rattle.conditions.specs.declared.Condition.{Condition}
 use Rattle.conditions.specs.Condition.{satisfied, actionAt}
@@ -55,10 +56,6 @@ room t paired = capacityOf paired (length (t .conditions)) (length (t .absences)
 -- the first n entries that the tables hold
 abbrev pub held : Columns → ℕ → List (Entry Condition)
 held t n = entriesOf (t .conditions) (t .absences) (t .actions) (t .parents) (t .depths) n
-
--- a column with the list written to its front: past the list it is as it was
-abbrev pub over : (Entry Condition → ℕ) → List (Entry Condition) → List ℕ → List ℕ
-over field l xs = map field l ++ drop (length l) xs
 
 -- the tables with the list written to their fronts: "the list tables hold the entries stored, all else untouched"; the further one only of a
 -- paired list

@@ -57,7 +57,7 @@ fn capacity_of(
     numbers::lesser(numbers::lesser(shortest, absences), MAX_PAIRS)
 }
 
-// So many, of a paired list: one that is not has no second masks.
+// How many of n second masks count: all for a paired list, and none for one that has no second masks.
 pub fn if_paired(paired: bool, n: usize) -> usize
     ensures { λ r. ⌜ r ≡ ifPaired paired n ⌝ }
 {

@@ -26,7 +26,7 @@ use Rattle.planning.specs.Expansion.{Entry}
 use Rattle.flat.specs.TreeBytes.{conditionBytes, actionBytes, firstBytes, entryBytes, laterEntries, treeBytes}
 use Rattle.batch_walk.specs.Batch.{readBy, entriesRead}
 use Rattle.batch_checks.specs.Checks.{entryFits, checkedList}
-use Rattle.batch_tick.specs.BatchTick.{entriesLent, Batch, checkedBatch, batchTicked}
+use Rattle.batch_tick.specs.BatchTick.{entriesLent, BatchAnswer, checkedBatch, batchTicked}
 use Rattle.marked_cases.specs.Trailer.{trailerBytes}
 use Rattle.marked_cases.specs.OneFactLess.{oneFactLessBytes}
 use Rattle.marked_cases.specs.Cases.{reading, whole, lessWhole}
@@ -49,13 +49,13 @@ p1 = take 8 whole
 abbrev less : List (Entry Condition)
 less = take 7 lessWhole
 
-abbrev onTrailer : (conditions jobs : List ℕ) → List Reading → Checked Batch
+abbrev onTrailer : (conditions jobs : List ℕ) → List Reading → Checked BatchAnswer
 onTrailer conditions jobs rs = batchTicked trailerBytes conditions [] jobs rs
 
-abbrev onLess : (absences : List ℕ) → List Reading → Checked Batch
+abbrev onLess : (absences : List ℕ) → List Reading → Checked BatchAnswer
 onLess absences rs = batchTicked oneFactLessBytes (presents less) absences (jobs less) rs
 
-abbrev told : List Status → ℕ → Checked Batch
+abbrev told : List Status → ℕ → Checked BatchAnswer
 told statuses read = accepted (record { statuses = statuses; read = read })
 
 -- the readings of P7, P8, P9 and P10

@@ -1,4 +1,4 @@
-// Numbers of two and eight bytes at an offset, least byte first, read and written, and the lesser of two numbers (document 01, "Masks are unsigned 64-bit, least byte
+// Numbers of two and eight bytes at an offset, least byte first, read and written (document 01, "Masks are unsigned 64-bit, least byte
 // first" and "Two-byte numbers have the least byte first").
 ghost use mathlib.Core.Path.{_≡_};
 ghost use Prim.Native.Nat.{_+_, _≤_, _<_, min};

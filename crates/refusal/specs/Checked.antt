@@ -15,9 +15,9 @@ andThen (accepted a) next = next a
 andThen (refused n p) next = refused n p
 
 -- the same of each element of a list, with its index, the first of which is `at`
-abbrev pub each : {A B : Type 0} → (ℕ → A → Checked B) → (at : ℕ) → List A → Checked (List B)
-each check at [] = accepted []
-each check at (x ∷ l) = andThen (check at x) λ y. andThen (each check (suc at) l) λ ys. accepted (y ∷ ys)
+abbrev pub checkedEach : {A B : Type 0} → (ℕ → A → Checked B) → (at : ℕ) → List A → Checked (List B)
+checkedEach check at [] = accepted []
+checkedEach check at (x ∷ l) = andThen (check at x) λ y. andThen (checkedEach check (suc at) l) λ ys. accepted (y ∷ ys)
 
 -- a refusal of the code, in document 01's terms
 abbrev pub refusedBy : {A : Type 0} → Refusal → Checked A

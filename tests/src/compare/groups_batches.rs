@@ -198,7 +198,9 @@ fn uneven(random: &mut Random, index: u64, kind: Jobs) {
     let mut any = rows;
     any.conditions.truncate(random.below(list.len() + 1));
     any.absences.truncate(random.below(list.len() + 1));
+    any.jobs.truncate(random.below(list.len() + 1));
     any.held.truncate(random.below(vehicles.len() + 1));
+    any.unread.truncate(random.below(vehicles.len() + 1));
     let answers = [random.below(vehicles.len() + 3), random.below(vehicles.len() + 3)];
     let _ = ask_into(random, &bytes, &any, answers);
 }

@@ -7,7 +7,7 @@ use lib.ListN.{getD}
 use borrow.Author.Needs.{needs}
 use borrow.Author.Tests.{not-true, not-false}
 use Rattle.conditions.specs.Condition.{conditionAt}
-use Rattle.batch_checks.specs.Checks.{entryFits, judgedOf}
+use Rattle.batch_checks.specs.Checks.{entryFits, batchCheckedOf}
 use Rattle.batch_checks.specs.CheckLaws.{EntryPasses, next-entry, entries-passed, entry-refused}
 use Rattle.batch_checks.proofs.check_entries.Statement.{statement}
 use Rattle.batch_checks.proofs.check_entries.Tie as tie
@@ -53,7 +53,7 @@ returns c =
     let asked = c .before .before in
     let t = turn-of asked in
     let a = start-of (t .before) .args in
-    ap (judgedOf _) (c .refuse .ensures)
+    ap (batchCheckedOf _) (c .refuse .ensures)
     ∙ entry-refused (a .header .facts) (a .header .jobs) (a .conditions .now) (a .absences .now) (a .actions .now) (a .n) (t .before .loop .i)
     (t .loop-test .taken) (t .before .loop .inv .1) (sym (fits asked) ∙ not-true _ (c .before .if1 .taken))
 

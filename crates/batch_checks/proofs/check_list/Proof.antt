@@ -2,7 +2,7 @@
 -- Assumes nothing.
 use mathlib.Core.Path.{ap, _∙_}
 use native.Mathlib.Omega.{arith}
-use Rattle.batch_checks.specs.Checks.{judgedOf}
+use Rattle.batch_checks.specs.Checks.{batchCheckedOf}
 use Rattle.batch_checks.specs.CheckLaws.{list-none, list-long, list-sized}
 use borrow.Author.Needs.{needs}
 use Rattle.batch_checks.proofs.check_list.Statement.{statement}
@@ -22,7 +22,7 @@ returns : tie.Need-returns
 returns c =
     let m = c .before .before in
     let a = start-of m .args in
-    ap (judgedOf _) (c .refuse .ensures)
+    ap (batchCheckedOf _) (c .refuse .ensures)
     ∙ list-none (a .header .facts) (a .header .jobs) (a .conditions .now) (a .absences .now) (a .actions .now) (a .header .paired) (a .n) (c .before .if1 .taken)
 
 refuse-requires-2 : tie.Need-refuse-requires-2
@@ -32,7 +32,7 @@ returns-2 : tie.Need-returns-2
 returns-2 c =
     let m = c .before .before .before in
     let a = start-of m .args in
-    ap (judgedOf _) (c .refuse2 .ensures)
+    ap (batchCheckedOf _) (c .refuse2 .ensures)
     ∙ list-long (a .header .facts) (a .header .jobs) (a .conditions .now) (a .absences .now) (a .actions .now) (a .header .paired) (a .n)
     (rw (m .max-entries .ensures) at (c .before .if2 .taken))
 

@@ -6,7 +6,7 @@ use Prim.Native.Nat.{_≤_}
 use lib.ListN.{length}
 use lib.Seq.{length-take-le}
 use Rattle.expander.specs.ExpandsLaws.{if-most}
-use Rattle.batch_tick.specs.BatchTickLaws.{entries-few, due-few, leaves-lent}
+use Rattle.batch_tick.specs.BatchTickLaws.{entries-few, due-few, writes-lent}
 use borrow.Author.Needs.{needs}
 use Rattle.batch_tick.proofs.tick_under.Statement.{statement}
 use Rattle.batch_tick.proofs.tick_under.Tie as tie
@@ -66,7 +66,7 @@ returns c =
     let ticked = c .before .before .before .before in
     let k = ticked .before .before .before .before in
     let a = start-of k .args in
-    leaves-lent (a .header) (a .conditions .now) (a .absences .now) (a .actions .now) (a .held .now) (a .unread .now) _ (entries-of k .entries-lent .ensures)
+    writes-lent (a .header) (a .conditions .now) (a .absences .now) (a .actions .now) (a .held .now) (a .unread .now) _ (entries-of k .entries-lent .ensures)
     (masks-of k .if-paired .ensures) (k .vehicles-due .ensures) (ticked .tick-vehicles .ensures)
 
 pub tick-under-spec : {M : Type 1} → statement M

@@ -10,9 +10,9 @@ use Rattle.conditions.specs.declared.Condition.{Condition}
 use Rattle.planning.specs.Expansion.{Entry}
 use Rattle.planning.specs.Columns.{entryAt}
 use Rattle.flat.specs.TreeBytes.{treeEntries}
-use Rattle.batch_walk.specs.Batch.{readingsOf, Rows, rows}
-use Rattle.batch_checks.specs.Checks.{checkedReadings, checkedList, judgedOf}
-use Rattle.batch_tick.specs.BatchTickLaws.{list-some, leaves-reading, leaves-list, leaves-walked}
+use Rattle.batch_walk.specs.Batch.{readingsOf, AnswerRows, answerRows}
+use Rattle.batch_checks.specs.Checks.{checkedReadings, checkedList, batchCheckedOf}
+use Rattle.batch_tick.specs.BatchTickLaws.{list-some, refused-reading, refused-list, walked-answers}
 use borrow.Author.Needs.{needs}
 use Rattle.batch_tick.proofs.tick_vehicles.Statement.{statement}
 use Rattle.batch_tick.proofs.tick_vehicles.Tie as tie
@@ -38,11 +38,11 @@ rs c = let a = start-of c .args in readingsOf (a .held .now) (a .unread .now) (a
 abbrev l : Readings → List (Entry Condition)
 l c = let a = start-of c .args in treeEntries (a .conditions .now) (a .absences .now) (a .actions .now) (a .n)
 
-abbrev lent : Readings → Rows
-lent c = let a = start-of c .args in rows (a .statuses .now) (a .values .now)
+abbrev lent : Readings → AnswerRows
+lent c = let a = start-of c .args in answerRows (a .statuses .now) (a .values .now)
 
 readings-passed : (c : Listed) → accepted (rs (readings-of c)) ≡ checkedReadings (start-of (readings-of c) .args .header .facts) (rs (readings-of c))
-readings-passed c = ap (judgedOf (rs (readings-of c))) (sym (c .before .enum-told .given .1)) ∙ readings-of c .check-readings .ensures
+readings-passed c = ap (batchCheckedOf (rs (readings-of c))) (sym (c .before .enum-told .given .1)) ∙ readings-of c .check-readings .ensures
 
 -- the list passed, too
 abbrev listed-of : tie.After-enum-told2 → Listed
@@ -50,7 +50,7 @@ listed-of c = c .before .before
 
 list-passed : (c : tie.After-enum-told2) → let k = readings-of (listed-of c) in let h = start-of k .args .header in
     accepted (l k) ≡ checkedList (h .paired) (h .facts) (h .jobs) (l k)
-list-passed c = ap (judgedOf (l (readings-of (listed-of c)))) (sym (c .enum-told2 .given .1)) ∙ listed-of c .check-list .ensures
+list-passed c = ap (batchCheckedOf (l (readings-of (listed-of c)))) (sym (c .enum-told2 .given .1)) ∙ listed-of c .check-list .ensures
 
 -- ---- the needs
 
@@ -83,14 +83,14 @@ walk-all-requires c κs =
 returns : tie.Need-returns
 returns c =
     let k = c .before .before .before in
-    leaves-reading (start-of k .args .header) (l k) (rs k) (lent k) _ _ (ap (judgedOf (rs k)) (sym (c .before .x .given .1)) ∙ k .check-readings .ensures)
+    refused-reading (start-of k .args .header) (l k) (rs k) (lent k) _ _ (ap (batchCheckedOf (rs k)) (sym (c .before .x .given .1)) ∙ k .check-readings .ensures)
 
 returns-2 : tie.Need-returns-2
 returns-2 c =
     let judged = c .before .before .before in
     let k = readings-of judged in
-    leaves-list (start-of k .args .header) (l k) (rs k) (lent k) (readings-passed judged) _ _
-    (ap (judgedOf (l k)) (sym (c .before .x2 .given .1)) ∙ judged .check-list .ensures)
+    refused-list (start-of k .args .header) (l k) (rs k) (lent k) (readings-passed judged) _ _
+    (ap (batchCheckedOf (l k)) (sym (c .before .x2 .given .1)) ∙ judged .check-list .ensures)
 
 same-length : tie.Need-same-length
 same-length c = search needs
@@ -103,7 +103,7 @@ returns-3 c =
     let walked = c .before .before .before .before in
     let told = walked .before .before .before in
     let k = readings-of (listed-of told) in
-    leaves-walked (start-of k .args .header) (l k) (rs k) (lent k) (readings-passed (listed-of told)) (list-passed told) (walked .walk-all .ensures)
+    walked-answers (start-of k .args .header) (l k) (rs k) (lent k) (readings-passed (listed-of told)) (list-passed told) (walked .walk-all .ensures)
 
 pub tick-vehicles-spec : {M : Type 1} → statement M
 tick-vehicles-spec =

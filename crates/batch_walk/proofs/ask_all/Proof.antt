@@ -5,19 +5,21 @@ use Prim.Native.Nat.{_-_, _≤_, _<_}
 use native.Mathlib.Omega.{arith}
 use lib.ListN.{length, getD}
 use borrow.Author.Needs.{needs}
-use Rattle.base.specs.Lists.{total, total-most}
-use Rattle.batch_walk.specs.Batch.{rows, readingAt}
-use Rattle.batch_walk.specs.Steps.{overRows, answerAt}
-use Rattle.batch_walk.specs.StepLaws.{stops-once, after, stopsAt, asked-rows, asked-count, passed-rows, passed-count}
+use Rattle.base.specs.Lists.{sum, sum-most}
+use Rattle.tree.specs.declared.Status.the-variants.{Failure}
+use Rattle.tree.specs.StatusNumbers.{statusNumber}
+use Rattle.batch_walk.specs.Batch.{answerRows, readingAt}
+use Rattle.batch_walk.specs.Steps.{numberedAt, overRows, afterEntry, stopsAt}
+use Rattle.batch_walk.specs.StepLaws.{stops-once, meets-told, asked-rows, asked-count, passed-rows, passed-count}
 use Rattle.batch_walk.proofs.ask_all.Statement.{statement}
 use Rattle.batch_walk.proofs.ask_all.Tie as tie
 
 abbrev Inv-loop : tie.InvT-loop
 Inv-loop condition met vehicles held unread statuses₀ values₀ present stopped₀ v₀ statuses values stopped v =
     ((v ≤ vehicles) × (length statuses ≡ length statuses₀) × (length values ≡ length values₀))
-    × (rows statuses values ≡ overRows (after condition met held unread (rows statuses₀ values₀)) v (rows statuses₀ values₀))
-    × (stopped ≡ total (stopsAt condition met held unread (rows statuses₀ values₀)) v)
-    × (v < vehicles → getD statuses v 0 ≡ 1)
+    × (answerRows statuses values ≡ overRows (afterEntry condition met held unread (answerRows statuses₀ values₀)) v (answerRows statuses₀ values₀))
+    × (stopped ≡ sum (stopsAt condition met held unread (answerRows statuses₀ values₀)) v)
+    × (v < vehicles → getD statuses v 0 ≡ statusNumber Failure)
 
 abbrev μ-loop : tie.MeasureT-loop
 μ-loop condition met vehicles held unread statuses₀ values₀ present stopped₀ v₀ statuses values stopped v = vehicles - v
@@ -44,12 +46,12 @@ turn-of c = ask-of c .before .before .before
 stopped-few : (c : AtLoop) → c .loop .stopped ≤ c .loop .v
 stopped-few c =
     let a = start-of c .args in
-    let t = rows (a .statuses .now) (a .values .now) in
+    let t = answerRows (a .statuses .now) (a .values .now) in
     omega (
       arith,
       c .loop .inv .2,
-      total-most (stopsAt (a .condition) (a .met) (a .held .now) (a .unread .now) t)
-          (λ v. stops-once (a .condition) (readingAt (a .held .now) (a .unread .now) v) (answerAt t v)) (c .loop .v),
+      sum-most (stopsAt (a .condition) (a .met) (a .held .now) (a .unread .now) t)
+          (λ v. stops-once (a .condition) (readingAt (a .held .now) (a .unread .now) v) (numberedAt t v)) (c .loop .v),
     )
 
 one-more : (c : Asked) → ask-of c .ask .result ≤ 1
@@ -58,7 +60,7 @@ one-more c = let l = turn-of c .before in
     omega (
       arith,
       ask-of c .ask .ensures .count,
-      stops-once (a .condition) (readingAt (a .held .now) (a .unread .now) (l .loop .v)) (answerAt (rows (l .loop .statuses) (l .loop .values)) (l .loop .v)),
+      stops-once (a .condition) (readingAt (a .held .now) (a .unread .now) (l .loop .v)) (numberedAt (answerRows (l .loop .statuses) (l .loop .values)) (l .loop .v)),
     )
 
 -- ---- the needs
@@ -70,12 +72,12 @@ loop-holds : tie.Need-loop-holds Inv-loop μ-loop
 loop-holds c =
     let s = c .before .before .before .before .before .before in
     let a = s .args in
-    let t = rows (a .statuses .now) (a .values .now) in
-    let p = c .next-asked .ensures .0 in (
+    let t = answerRows (a .statuses .now) (a .values .now) in
+    let p = c .next-asked .ensures in (
       (p .inside, refl, refl),
       passed-rows (a .condition) (a .met) (a .held .now) (a .unread .now) t {now = t} {v = 0} refl p (s .pre .2) (s .pre .3),
       passed-count (a .condition) (a .met) (a .held .now) (a .unread .now) t {now = t} {v = 0} refl p,
-      c .next-asked .ensures .1,
+      λ h. meets-told _ _ _ (p .found h),
     )
 
 ask-requires : tie.Need-ask-requires Inv-loop μ-loop
@@ -100,7 +102,7 @@ next-asked-requires-2 c κs = search needs
 loop-less : tie.Need-loop-less Inv-loop μ-loop
 loop-less c =
     let t = turn-of (c .before .before) in
-    let p = c .next-asked2 .ensures .0 in
+    let p = c .next-asked2 .ensures in
     omega (arith, t .loop-test .taken, p .onward, p .inside)
 
 loop-again : tie.Need-loop-again Inv-loop μ-loop
@@ -110,15 +112,15 @@ loop-again c =
     let l = turn .before .loop in
     let s = start-of (turn .before) in
     let a = s .args in
-    let t = rows (a .statuses .now) (a .values .now) in
-    let p = c .next-asked2 .ensures .0 in
+    let t = answerRows (a .statuses .now) (a .values .now) in
+    let p = c .next-asked2 .ensures in
     let e = asked-rows (a .condition) (a .met) (a .held .now) (a .unread .now) t (l .inv .1) (ask-of asked .ask .ensures)
     (omega (arith, turn .loop-test .taken, s .pre)) (omega (arith, turn .loop-test .taken, s .pre)) in (
       (p .inside, search needs, search needs),
       passed-rows (a .condition) (a .met) (a .held .now) (a .unread .now) t e p (s .pre .2) (s .pre .3),
       asked-count (a .condition) (a .met) (a .held .now) (a .unread .now) t (l .inv .1) (ask-of asked .ask .ensures) (l .stopped) (l .inv .2)
           ∙ passed-count (a .condition) (a .met) (a .held .now) (a .unread .now) t e p,
-      c .next-asked2 .ensures .1,
+      λ h. meets-told _ _ _ (p .found h),
     )
 
 same-length : tie.Need-same-length Inv-loop μ-loop

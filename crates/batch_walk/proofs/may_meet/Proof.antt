@@ -1,9 +1,10 @@
 -- `batch_walk::may_meet` meets its contract.
 -- Assumes nothing.
-use mathlib.Core.Path.{sym, ap, _∙_}
-use mathlib.Core.Bool.{false≢true}
-use mathlib.Core.Logic.{inl, inr}
+use mathlib.Core.Path.{ap, _∙_}
+use lib.ListN.{getD}
 use Rattle.masks.specs.Sets.{subset}
+use Rattle.batch_walk.specs.Batch.{readingAt}
+use Rattle.batch_walk.specs.StepLaws.{meets-stopped, meets-going}
 use borrow.Author.Needs.{needs}
 use Rattle.batch_walk.proofs.may_meet.Statement.{statement}
 use Rattle.batch_walk.proofs.may_meet.Tie as tie
@@ -12,7 +13,7 @@ shared-slice-read-if1 : tie.Need-shared-slice-read-if1
 shared-slice-read-if1 c = search needs
 
 returns : tie.Need-returns
-returns c = (λ e. inl (c .if1 .taken), λ e. absurd (false≢true e))
+returns c = let a = c .before .before .before .before .before .args in meets-stopped (a .present) (readingAt (a .held .now) (a .unread .now) (a .v)) (getD (a .statuses .now) (a .v) 0) (c .if1 .taken)
 
 mul-join : tie.Need-mul-join
 mul-join c = search needs
@@ -35,10 +36,9 @@ is-subset-requires c κs = search needs
 returns-2 : tie.Need-returns-2
 returns-2 c =
     let goes = c .before .before .before .before in
-    let present = goes .before .before .before .before .before .args .present in (
-      λ e. inr (sym (c .is-subset .ensures ∙ ap (subset present) (c .before .join .ensures)) ∙ e),
-      λ e. goes .if1 .left,
-    )
+    let a = goes .before .before .before .before .before .args in
+    c .is-subset .ensures ∙ ap (subset (a .present)) (c .before .join .ensures)
+    ∙ meets-going (a .present) (readingAt (a .held .now) (a .unread .now) (a .v)) (getD (a .statuses .now) (a .v) 0) (goes .if1 .left)
 
 pub may-meet-spec : {M : Type 1} → statement M
 may-meet-spec =

@@ -6,8 +6,8 @@ use lib.ListN.{length, length-set}
 use native.Mathlib.Omega.{arith}
 use borrow.Author.Needs.{needs}
 use Rattle.tree.specs.declared.Status.the-variants.{Failure}
-use Rattle.batch_walk.specs.Batch.{Rows, rows}
-use Rattle.batch_walk.specs.Steps.{answerOf, setAnswer, overRows}
+use Rattle.batch_walk.specs.Batch.{AnswerRows, answerRows}
+use Rattle.batch_walk.specs.Steps.{numbered, setNumbered, overRows}
 use Rattle.batch_walk.specs.StepLaws.{rows-next}
 use Rattle.batch_walk.proofs.start_all.Statement.{statement}
 use Rattle.batch_walk.proofs.start_all.Tie as tie
@@ -15,7 +15,7 @@ use Rattle.batch_walk.proofs.start_all.Tie as tie
 abbrev Inv-loop : tie.InvT-loop
 Inv-loop vehicles statuses₀ values₀ v₀ statuses values v =
     ((v ≤ vehicles) × (length statuses ≡ length statuses₀) × (length values ≡ length values₀))
-    × (rows statuses values ≡ overRows (λ i. answerOf Failure) v (rows statuses₀ values₀))
+    × (answerRows statuses values ≡ overRows (λ i. numbered Failure) v (answerRows statuses₀ values₀))
 
 abbrev μ-loop : tie.MeasureT-loop
 μ-loop vehicles statuses₀ values₀ v₀ statuses values v = vehicles - v
@@ -43,8 +43,8 @@ loop-again c =
     let l = c .before .loop in
     let a = c .before .before .args in (
       simp length-set (omega (arith, c .loop-test .taken, l .inv .0)),
-      ap (λ (t : Rows). setAnswer t (l .v) (answerOf Failure)) (l .inv .1)
-          ∙ rows-next (λ i. answerOf Failure) (rows (a .statuses .now) (a .values .now)) (l .v) (omega (arith, c .loop-test .taken, c .before .before .pre))
+      ap (λ (t : AnswerRows). setNumbered t (l .v) (numbered Failure)) (l .inv .1)
+          ∙ rows-next (λ i. numbered Failure) (answerRows (a .statuses .now) (a .values .now)) (l .v) (omega (arith, c .loop-test .taken, c .before .before .pre))
           (omega (arith, c .loop-test .taken, c .before .before .pre)),
     )
 

@@ -7,8 +7,9 @@ use native.Mathlib.Omega.{arith}
 use lib.ListN.{length}
 use borrow.Author.Needs.{needs}
 use Rattle.flat.specs.TreeBytes.{treeEntries}
-use Rattle.batch_walk.specs.Batch.{readingsOf, Rows, rows, entriesRead}
-use Rattle.batch_walk.specs.StepLaws.{rowsAfter, goingAfter, rows-start, rows-none, rows-from, all-going, entry-rows, entry-going}
+use Rattle.batch_walk.specs.Batch.{readingsOf, AnswerRows, answerRows, entriesRead}
+use Rattle.batch_walk.specs.Steps.{rowsAfter, goingAfter}
+use Rattle.batch_walk.specs.StepLaws.{rows-start, rows-none, rows-from, all-going, entry-rows, entry-going}
 use Rattle.batch_walk.specs.WalkLaws.{going-reads, walked-all, walked-on}
 use Rattle.batch_walk.proofs.walk_all.Statement.{statement}
 use Rattle.batch_walk.proofs.walk_all.Tie as tie
@@ -16,7 +17,7 @@ use Rattle.batch_walk.proofs.walk_all.Tie as tie
 abbrev Inv-loop : tie.InvT-loop
 Inv-loop n conditions absences actions vehicles held unread statuses₀ values₀ going₀ entry₀ statuses values going entry =
     ((entry ≤ n) × (length statuses ≡ length statuses₀) × (length values ≡ length values₀) × (0 < going))
-    × (rows statuses values ≡ rowsAfter conditions absences actions held unread entry vehicles (rows statuses₀ values₀))
+    × (answerRows statuses values ≡ rowsAfter conditions absences actions held unread entry vehicles (answerRows statuses₀ values₀))
     × (going ≡ goingAfter conditions absences actions held unread entry vehicles)
     × (entry ≤ entriesRead (treeEntries conditions absences actions n) (readingsOf held unread vehicles))
 
@@ -55,8 +56,8 @@ abbrev turn-of : Stepped → tie.In-loop Inv-loop μ-loop
 turn-of c = met-of c .before .before
 
 -- what the rows held at first
-abbrev lent : Begun → Rows
-lent c = rows (start-of c .args .statuses .now) (start-of c .args .values .now)
+abbrev lent : Begun → AnswerRows
+lent c = answerRows (start-of c .args .statuses .now) (start-of c .args .values .now)
 
 -- how many go on after the entry
 left-going : (c : Stepped) → let a = start-of (begun-of (turn-of c .before)) .args in let l = turn-of c .before .loop in
