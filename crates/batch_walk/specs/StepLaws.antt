@@ -25,7 +25,7 @@ use Rattle.tree.specs.declared.Status.{Status}
 use Rattle.tree.specs.declared.Status.the-variants.{Success, Failure, Running, Unsettled}
 use Rattle.batch_walk.specs.declared.Numbered.{Numbered}
 use Rattle.batch_walk.specs.Batch.{readingAt, AnswerRows}
-use Rattle.batch_walk.specs.Steps.{numbered, numberedAt, setNumbered, overRows, metAt, isGoing, asked, isMissed, oneIf, stops, stepped, Asks, AsksAll, mayMeet, NextAsked, afterEntry, stopsAt, nextStatus, isFailure, answerAfter, statusAfter, rowsAfter, goingAfter}
+use Rattle.batch_walk.specs.Steps.{numbered, numberedAt, setNumbered, overRows, metAt, isGoing, asked, isMissed, oneIf, stops, stepped, Asks, AsksAll, mayMeet, NextAsked, afterEntry, stopsAt, nextStatus, isFailure, answerAfter, WalkedRows, statusAfter, rowsAfter, goingAfter}
 
 -- ---- what a met entry answers
 
@@ -176,7 +176,8 @@ module _ (c : Condition) (met : Numbered) (held unread : List ℕ) (t : AnswerRo
   module _ {now : AnswerRows} {v n next : ℕ} (e : now ≡ overRows (afterEntry c met held unread t) v t) (p : NextAsked (c .present) held unread (now .statuses) v n next) where
     idle : (i : ℕ) → v ≤ i → i < next → mayMeet (c .present) (readingAt held unread i) (getD (t .statuses) i 0) ≡ false
     idle i h k =
-        subst (λ (status : ℕ). mayMeet (c .present) (readingAt held unread i) status ≡ false) (ap (λ (x : Numbered). x .status) (ap (λ (s : AnswerRows). numberedAt s i) e ∙ rows-past (afterEntry c met held unread t) t v i h)) (p .passed i h k)
+        let same = ap (λ (s : AnswerRows). numberedAt s i) e ∙ rows-past (afterEntry c met held unread t) t v i h in
+        subst (λ (x : Numbered). mayMeet (c .present) (readingAt held unread i) (x .status) ≡ false) same (p .passed i h k)
 
     pub passed-rows : n ≤ length (t .statuses) → n ≤ length (t .values) → now ≡ overRows (afterEntry c met held unread t) next t
     passed-rows h k =
@@ -216,39 +217,41 @@ status-goes c r i job Failure = by-entry i (evaluated r c)
     by-entry i Missed = refl
     by-entry i (Open mask) = refl
 
-module _ (conditions absences actions held unread : List ℕ) where
+module _ (w : WalkedRows) where
   -- before the first entry every vehicle goes on; from there on it does not matter what the rows held
   module _ (vehicles : ℕ) (t : AnswerRows) {start : AnswerRows} (e : start ≡ overRows (λ v. numbered Failure) vehicles t) where
-    pub rows-start : start ≡ rowsAfter conditions absences actions held unread 0 vehicles start
+    pub rows-start : start ≡ rowsAfter w 0 vehicles start
     unfolding answerAfter
     rows-start = e ∙ sym (rows-again (λ v. numbered Failure) t (λ v. numbered Failure) vehicles) ∙ ap (overRows (λ v. numbered Failure) vehicles) (sym e)
 
-    pub rows-none : start ≡ rowsAfter conditions absences actions held unread 0 vehicles t
+    pub rows-none : start ≡ rowsAfter w 0 vehicles t
     unfolding answerAfter
     rows-none = e
 
-    pub rows-from : {now : AnswerRows} (n : ℕ) → now ≡ rowsAfter conditions absences actions held unread n vehicles start → now ≡ rowsAfter conditions absences actions held unread n vehicles t
-    rows-from n f = f ∙ ap (rowsAfter conditions absences actions held unread n vehicles) e ∙ rows-again (λ v. numbered (statusAfter conditions absences actions held unread n v)) t (λ v. numbered Failure) vehicles
+    pub rows-from : {now : AnswerRows} (n : ℕ) → now ≡ rowsAfter w n vehicles start → now ≡ rowsAfter w n vehicles t
+    rows-from n f = f ∙ ap (rowsAfter w n vehicles) e ∙ rows-again (λ v. numbered (statusAfter w n v)) t (λ v. numbered Failure) vehicles
 
-  pub all-going : (vehicles : ℕ) → vehicles ≡ goingAfter conditions absences actions held unread 0 vehicles
+  pub all-going : (vehicles : ℕ) → vehicles ≡ goingAfter w 0 vehicles
   unfolding answerAfter
   all-going zero = refl
   all-going (suc v) = omega (arith, all-going v)
 
-  module _ (n vehicles : ℕ) (t : AnswerRows) {now later : AnswerRows} {stopped : ℕ} {c : Condition} {met : Numbered} (e : now ≡ rowsAfter conditions absences actions held unread n vehicles t)
-      (is : c ≡ conditionAt conditions absences n) (gives : met ≡ numbered (metAt n (getD actions n 0))) (s : AsksAll c met held unread vehicles now later stopped) where
-    stands : (v : ℕ) → v < vehicles → numberedAt now v ≡ numbered (statusAfter conditions absences actions held unread n v)
-    stands v h = ap (λ (t : AnswerRows). numberedAt t v) e ∙ rows-front (λ v. numbered (statusAfter conditions absences actions held unread n v)) t vehicles v h
+  module _ (n vehicles : ℕ) (t : AnswerRows) {now later : AnswerRows} {stopped : ℕ} {c : Condition} {met : Numbered} (e : now ≡ rowsAfter w n vehicles t)
+      (is : c ≡ conditionAt (w .conditions) (w .absences) n) (gives : met ≡ numbered (metAt n (getD (w .actions) n 0))) (s : AsksAll c met (w .held) (w .unread) vehicles now later stopped) where
+    stands : (v : ℕ) → v < vehicles → numberedAt now v ≡ numbered (statusAfter w n v)
+    stands v h = ap (λ (t : AnswerRows). numberedAt t v) e ∙ rows-front (λ v. numbered (statusAfter w n v)) t vehicles v h
 
-    pub entry-rows : later ≡ rowsAfter conditions absences actions held unread (n + 1) vehicles t
+    pub entry-rows : later ≡ rowsAfter w (n + 1) vehicles t
     unfolding answerAfter
     entry-rows =
-        s .answers ∙ rows-same _ now (λ v. numbered (statusAfter conditions absences actions held unread (n + 1) v)) vehicles (λ v h. rw (stands v h, is, gives, add-one n) (status-stepped _ (readingAt held unread v) (metAt n (getD actions n 0)) (statusAfter conditions absences actions held unread n v)))
-        ∙ rw e (rows-again (λ v. numbered (statusAfter conditions absences actions held unread (n + 1) v)) t (λ v. numbered (statusAfter conditions absences actions held unread n v)) vehicles)
+        s .answers
+        ∙ rows-same _ now (λ v. numbered (statusAfter w (n + 1) v)) vehicles (λ v h.
+        rw (stands v h, is, gives, add-one n) (status-stepped _ (readingAt (w .held) (w .unread) v) (metAt n (getD (w .actions) n 0)) (statusAfter w n v)))
+        ∙ rw e (rows-again (λ v. numbered (statusAfter w (n + 1) v)) t (λ v. numbered (statusAfter w n v)) vehicles)
 
-    pub entry-going : goingAfter conditions absences actions held unread n vehicles ≡ stopped + goingAfter conditions absences actions held unread (n + 1) vehicles
+    pub entry-going : goingAfter w n vehicles ≡ stopped + goingAfter w (n + 1) vehicles
     unfolding answerAfter
     entry-going =
-        sum-split (λ v. oneIf (isFailure (statusAfter conditions absences actions held unread n v))) (λ v. stops c (readingAt held unread v) (numberedAt now v)) (λ v. oneIf (isFailure (statusAfter conditions absences actions held unread (n + 1) v))) vehicles
-        (λ v h. rw (stands v h, is, add-one n) (status-goes _ (readingAt held unread v) n (getD actions n 0) (statusAfter conditions absences actions held unread n v)))
-        ∙ ap (λ (k : ℕ). k + goingAfter conditions absences actions held unread (n + 1) vehicles) (sym (s .count))
+        sum-split (λ v. oneIf (isFailure (statusAfter w n v))) (λ v. stops c (readingAt (w .held) (w .unread) v) (numberedAt now v)) (λ v. oneIf (isFailure (statusAfter w (n + 1) v))) vehicles
+        (λ v h. rw (stands v h, is, add-one n) (status-goes _ (readingAt (w .held) (w .unread) v) n (getD (w .actions) n 0) (statusAfter w n v)))
+        ∙ ap (λ (k : ℕ). k + goingAfter w (n + 1) vehicles) (sym (s .count))

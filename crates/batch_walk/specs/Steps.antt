@@ -130,12 +130,23 @@ module _ (conditions absences actions : List ℕ) (r : Reading) where
   answerAfter zero = Failure
   answerAfter (suc n) = nextStatus (metAt n (getD actions n 0)) (evaluated r (conditionAt conditions absences n)) (answerAfter n)
 
-module _ (conditions absences actions held unread : List ℕ) where
-  -- the same of vehicle v
-  abbrev pub statusAfter : ℕ → ℕ → Status
-  statusAfter n v = answerAfter conditions absences actions (readingAt held unread v) n
+-- the rows that a walk reads: a list's, and its vehicles'
+pub record WalkedRows : Type 0 where
+  pub conditions : List ℕ
+  pub absences : List ℕ
+  pub actions : List ℕ
+  pub held : List ℕ
+  pub unread : List ℕ
 
-  -- the rows after n entries, of so many vehicles, and how many of them go on
+abbrev pub walkedRows : (conditions absences actions held unread : List ℕ) → WalkedRows
+walkedRows conditions absences actions held unread = record { conditions = conditions; absences = absences; actions = actions; held = held; unread = unread }
+
+module _ (w : WalkedRows) where
+  -- what the first n entries answer to vehicle v
+  abbrev pub statusAfter : ℕ → ℕ → Status
+  statusAfter n v = answerAfter (w .conditions) (w .absences) (w .actions) (readingAt (w .held) (w .unread) v) n
+
+  -- the rows of answers after n entries, of so many vehicles, and how many of them go on
   abbrev pub rowsAfter : ℕ → ℕ → AnswerRows → AnswerRows
   rowsAfter n vehicles t = overRows (λ v. numbered (statusAfter n v)) vehicles t
 

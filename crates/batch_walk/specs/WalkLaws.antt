@@ -26,7 +26,7 @@ use Rattle.flat.specs.FlatTree.{treeOf}
 use Rattle.flat.specs.FlatTick.{laterVerdict, listVerdict}
 use Rattle.flat.specs.FlatTickLaws.{tree-ticked}
 use Rattle.batch_walk.specs.Batch.{readingAt, readingsOf, AnswerRows, answering, readBy, entriesRead, Walks}
-use Rattle.batch_walk.specs.Steps.{oneIf, numbered, overRows, metAt, isMissed, nextStatus, isFailure, answerAfter, rowsAfter, goingAfter}
+use Rattle.batch_walk.specs.Steps.{oneIf, numbered, overRows, metAt, isMissed, nextStatus, isFailure, answerAfter, WalkedRows, rowsAfter, goingAfter}
 
 -- ---- the answers
 
@@ -251,71 +251,73 @@ module _ (conditions absences actions : List ℕ) where
             (n, omega arith, next-stopped n (getD actions n 0) (evaluated r (conditionAt conditions absences n)) (answerAfter conditions absences actions r n) f e)
         by-before false f rest = let (i, h, m) = rest f in (i, omega arith, m)
 
-  module _ (held unread : List ℕ) (n vehicles : ℕ) where
-    abbrev list : List (Entry Condition)
-    list = treeEntries conditions absences actions n
+-- ---- the walk
 
-    abbrev vehicle : ℕ → Reading
-    vehicle v = readingAt held unread v
+module _ (w : WalkedRows) (n vehicles : ℕ) where
+  abbrev list : List (Entry Condition)
+  list = treeEntries (w .conditions) (w .absences) (w .actions) n
 
-    abbrev readings : List Reading
-    readings = readingsOf held unread vehicles
+  abbrev vehicle : ℕ → Reading
+  vehicle v = readingAt (w .held) (w .unread) v
 
-    list-at : (i : ℕ) → i < n → getD list i (entry 0) .condition ≡ conditionAt conditions absences i
-    list-at i h = ap (λ (x : Entry Condition). x .condition) (getD-prefix entry n i (entry 0) h)
+  abbrev readings : List Reading
+  readings = readingsOf (w .held) (w .unread) vehicles
 
-    one-of : (v : ℕ) → v < vehicles → readBy (vehicle v) list ≤ entriesRead list readings
-    one-of v h =
-        let here : getD readings v (vehicle 0) ≡ vehicle v = getD-prefix vehicle vehicles v (vehicle 0) h in
-        rw here at (one-read list readings v (vehicle 0) (omega (arith, length-prefix vehicle vehicles)))
+  list-at : (i : ℕ) → i < n → getD list i ((entry (w .conditions) (w .absences) (w .actions)) 0) .condition ≡ conditionAt (w .conditions) (w .absences) i
+  list-at i h = ap (λ (x : Entry Condition). x .condition) (getD-prefix (entry (w .conditions) (w .absences) (w .actions)) n i ((entry (w .conditions) (w .absences) (w .actions)) 0) h)
 
-    each-of : (k : ℕ) → ((v : ℕ) → v < vehicles → readBy (vehicle v) list ≤ k) → entriesRead list readings ≤ k
-    each-of k h = each-read list readings k (vehicle 0) (λ v m.
-        let inside : v < vehicles = omega (arith, length-prefix vehicle vehicles) in
-        let here : getD readings v (vehicle 0) ≡ vehicle v = getD-prefix vehicle vehicles v (vehicle 0) inside in
-        rw here (h v inside))
+  one-of : (v : ℕ) → v < vehicles → readBy (vehicle v) list ≤ entriesRead list readings
+  one-of v h =
+      let here : getD readings v (vehicle 0) ≡ vehicle v = getD-prefix vehicle vehicles v (vehicle 0) h in
+      rw here at (one-read list readings v (vehicle 0) (omega (arith, length-prefix vehicle vehicles)))
 
-    -- while one goes on, the next entry is read
-    pub going-reads : (i : ℕ) → i < n → 0 < goingAfter conditions absences actions held unread i vehicles → i + 1 ≤ entriesRead list readings
-    going-reads i h e =
-        let (v, inside, one) = sum-some _ vehicles e in
-        let failed : isFailure (answerAfter conditions absences actions (vehicle v) i) ≡ true = some-one _ one in
-        let more = read-more (vehicle v) list i (entry 0) (omega (arith, length-prefix entry n))
-        (λ j k. rw (list-at j (omega arith)) (after-failed (vehicle v) i failed j k)) in
-        omega (arith, more, one-of v inside)
+  each-of : (k : ℕ) → ((v : ℕ) → v < vehicles → readBy (vehicle v) list ≤ k) → entriesRead list readings ≤ k
+  each-of k h = each-read list readings k (vehicle 0) (λ v m.
+      let inside : v < vehicles = omega (arith, length-prefix vehicle vehicles) in
+      let here : getD readings v (vehicle 0) ≡ vehicle v = getD-prefix vehicle vehicles v (vehicle 0) inside in
+      rw here (h v inside))
 
-    -- none reads more than all, and none an entry after the one at which it stopped
-    pub all-read : entriesRead list readings ≤ n
-    all-read = each-of n (λ v h. omega (arith, read-all (vehicle v) list, length-prefix entry n))
+  -- while one goes on, the next entry is read
+  pub going-reads : (i : ℕ) → i < n → 0 < goingAfter w i vehicles → i + 1 ≤ entriesRead list readings
+  going-reads i h e =
+      let (v, inside, one) = sum-some _ vehicles e in
+      let failed : isFailure (answerAfter (w .conditions) (w .absences) (w .actions) (vehicle v) i) ≡ true = some-one _ one in
+      let more = read-more (vehicle v) list i ((entry (w .conditions) (w .absences) (w .actions)) 0) (omega (arith, length-prefix (entry (w .conditions) (w .absences) (w .actions)) n))
+      (λ j k. rw (list-at j (omega arith)) (after-failed (w .conditions) (w .absences) (w .actions) (vehicle v) i failed j k)) in
+      omega (arith, more, one-of v inside)
 
-    pub stopped-reads : (i : ℕ) → i ≤ n → goingAfter conditions absences actions held unread i vehicles ≡ 0 → entriesRead list readings ≤ i
-    stopped-reads i h e = each-of i (λ v inside.
-        let (j, k, m) = after-stopped (vehicle v) i (no-one _ (sum-none _ vehicles e v inside)) in
-        omega (arith, read-stop (vehicle v) list j (entry 0) (omega (arith, length-prefix entry n)) (rw (list-at j (omega arith)) m)))
+  -- none reads more than all, and none an entry after the one at which it stopped
+  pub all-read : entriesRead list readings ≤ n
+  all-read = each-of n (λ v h. omega (arith, read-all (vehicle v) list, length-prefix (entry (w .conditions) (w .absences) (w .actions)) n))
 
-    -- ---- the walk has ended after i entries: all of them, or no vehicle goes on
+  pub stopped-reads : (i : ℕ) → i ≤ n → goingAfter w i vehicles ≡ 0 → entriesRead list readings ≤ i
+  stopped-reads i h e = each-of i (λ v inside.
+      let (j, k, m) = after-stopped (w .conditions) (w .absences) (w .actions) (vehicle v) i (no-one _ (sum-none _ vehicles e v inside)) in
+      omega (arith, read-stop (vehicle v) list j ((entry (w .conditions) (w .absences) (w .actions)) 0) (omega (arith, length-prefix (entry (w .conditions) (w .absences) (w .actions)) n)) (rw (list-at j (omega arith)) m)))
 
-    module _ (some : 1 ≤ n) (t : AnswerRows) {now : AnswerRows} {i : ℕ} (few : i ≤ n) (e : now ≡ rowsAfter conditions absences actions held unread i vehicles t)
-        (read : i ≤ entriesRead list readings) (last : (v : ℕ) → v < vehicles → answerAfter conditions absences actions (vehicle v) i ≡ answerAfter conditions absences actions (vehicle v) n)
-        (most : entriesRead list readings ≤ i) where
-      ended : Walks list readings t now i
-      ended =
-          record {
-            answers = λ paired.
-                e ∙ answering-rows (λ v. answerAfter conditions absences actions (vehicle v) i) vehicles t
-                ∙ ap (λ (l : List Status). answering l t)
-                (prefix-same _ (λ v. tickTree (vehicle v) (treeOf paired list) .answer) vehicles (λ v h. last v h ∙ after-ticked (vehicle v) paired n some)
-                ∙ sym (map-prefix vehicle (λ r. tickTree r (treeOf paired list) .answer) vehicles));
-            count = omega arith;
-          }
+  -- ---- the walk has ended after i entries: all of them, or no vehicle goes on
 
-    module _ (some : 1 ≤ n) (t : AnswerRows) {now : AnswerRows} {i : ℕ} (few : i ≤ n) (e : now ≡ rowsAfter conditions absences actions held unread i vehicles t)
-        (read : i ≤ entriesRead list readings) where
-      pub walked-all : i ≡ n → Walks list readings t now n
-      walked-all is =
-          subst (Walks list readings t now) is
-          (ended some t few e read (λ v h. ap (answerAfter conditions absences actions (vehicle v)) is) (omega (arith, all-read)))
+  module _ (some : 1 ≤ n) (t : AnswerRows) {now : AnswerRows} {i : ℕ} (few : i ≤ n) (e : now ≡ rowsAfter w i vehicles t)
+      (read : i ≤ entriesRead list readings) (last : (v : ℕ) → v < vehicles → answerAfter (w .conditions) (w .absences) (w .actions) (vehicle v) i ≡ answerAfter (w .conditions) (w .absences) (w .actions) (vehicle v) n)
+      (most : entriesRead list readings ≤ i) where
+    ended : Walks list readings t now i
+    ended =
+        record {
+          answers = λ paired.
+              e ∙ answering-rows (λ v. answerAfter (w .conditions) (w .absences) (w .actions) (vehicle v) i) vehicles t
+              ∙ ap (λ (l : List Status). answering l t)
+              (prefix-same _ (λ v. tickTree (vehicle v) (treeOf paired list) .answer) vehicles (λ v h. last v h ∙ after-ticked (w .conditions) (w .absences) (w .actions) (vehicle v) paired n some)
+              ∙ sym (map-prefix vehicle (λ r. tickTree r (treeOf paired list) .answer) vehicles));
+          count = omega arith;
+        }
 
-      pub walked-on : goingAfter conditions absences actions held unread i vehicles ≡ 0 → Walks list readings t now i
-      walked-on stopped =
-          ended some t few e read (λ v h. after-stays (vehicle v) i n few (no-one _ (sum-none _ vehicles stopped v h))) (stopped-reads i few stopped)
+  module _ (some : 1 ≤ n) (t : AnswerRows) {now : AnswerRows} {i : ℕ} (few : i ≤ n) (e : now ≡ rowsAfter w i vehicles t)
+      (read : i ≤ entriesRead list readings) where
+    pub walked-all : i ≡ n → Walks list readings t now n
+    walked-all is =
+        subst (Walks list readings t now) is
+        (ended some t few e read (λ v h. ap (answerAfter (w .conditions) (w .absences) (w .actions) (vehicle v)) is) (omega (arith, all-read)))
+
+    pub walked-on : goingAfter w i vehicles ≡ 0 → Walks list readings t now i
+    walked-on stopped =
+        ended some t few e read (λ v h. after-stays (w .conditions) (w .absences) (w .actions) (vehicle v) i n few (no-one _ (sum-none _ vehicles stopped v h))) (stopped-reads i few stopped)

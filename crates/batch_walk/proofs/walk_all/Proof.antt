@@ -8,7 +8,7 @@ use lib.ListN.{length}
 use borrow.Author.Needs.{needs}
 use Rattle.flat.specs.TreeBytes.{treeEntries}
 use Rattle.batch_walk.specs.Batch.{readingsOf, AnswerRows, answerRows, entriesRead}
-use Rattle.batch_walk.specs.Steps.{rowsAfter, goingAfter}
+use Rattle.batch_walk.specs.Steps.{WalkedRows, walkedRows, rowsAfter, goingAfter}
 use Rattle.batch_walk.specs.StepLaws.{rows-start, rows-none, rows-from, all-going, entry-rows, entry-going}
 use Rattle.batch_walk.specs.WalkLaws.{going-reads, walked-all, walked-on}
 use Rattle.batch_walk.proofs.walk_all.Statement.{statement}
@@ -17,8 +17,8 @@ use Rattle.batch_walk.proofs.walk_all.Tie as tie
 abbrev Inv-loop : tie.InvT-loop
 Inv-loop n conditions absences actions vehicles held unread statuses₀ values₀ going₀ entry₀ statuses values going entry =
     ((entry ≤ n) × (length statuses ≡ length statuses₀) × (length values ≡ length values₀) × (0 < going))
-    × (answerRows statuses values ≡ rowsAfter conditions absences actions held unread entry vehicles (answerRows statuses₀ values₀))
-    × (going ≡ goingAfter conditions absences actions held unread entry vehicles)
+    × (answerRows statuses values ≡ rowsAfter (walkedRows conditions absences actions held unread) entry vehicles (answerRows statuses₀ values₀))
+    × (going ≡ goingAfter (walkedRows conditions absences actions held unread) entry vehicles)
     × (entry ≤ entriesRead (treeEntries conditions absences actions n) (readingsOf held unread vehicles))
 
 abbrev μ-loop : tie.MeasureT-loop
@@ -59,25 +59,28 @@ turn-of c = met-of c .before .before
 abbrev lent : Begun → AnswerRows
 lent c = answerRows (start-of c .args .statuses .now) (start-of c .args .values .now)
 
+-- the rows that are read
+abbrev read-of : Begun → WalkedRows
+read-of c = let a = start-of c .args in walkedRows (a .conditions .now) (a .absences .now) (a .actions .now) (a .held .now) (a .unread .now)
+
 -- how many go on after the entry
-left-going : (c : Stepped) → let a = start-of (begun-of (turn-of c .before)) .args in let l = turn-of c .before .loop in
-    l .going ≡ asked-of c .ask-all .result
-    + goingAfter (a .conditions .now) (a .absences .now) (a .actions .now) (a .held .now) (a .unread .now) (l .entry + 1) (a .vehicles)
+left-going : (c : Stepped) → let b = begun-of (turn-of c .before) in let l = turn-of c .before .loop in
+    l .going ≡ asked-of c .ask-all .result + goingAfter (read-of b) (l .entry + 1) (start-of b .args .vehicles)
 left-going c =
     let l = turn-of c .before .loop in
-    let a = start-of (begun-of (turn-of c .before)) .args in
-    l .inv .2 ∙ entry-going (a .conditions .now) (a .absences .now) (a .actions .now) (a .held .now) (a .unread .now) (l .entry) (a .vehicles) _ (l .inv .1)
-    (met-of c .before .condition-at .ensures) (met-of c .met-at .ensures) (asked-of c .ask-all .ensures)
+    let b = begun-of (turn-of c .before) in
+    l .inv .2 ∙ entry-going (read-of b) (l .entry) (start-of b .args .vehicles) _ (l .inv .1) (met-of c .before .condition-at .ensures)
+    (met-of c .met-at .ensures) (asked-of c .ask-all .ensures)
 
 -- the entry itself was read
-next-read : (c : Stepped) → let a = start-of (begun-of (turn-of c .before)) .args in let l = turn-of c .before .loop in
-    l .entry + 1 ≤ entriesRead (treeEntries (a .conditions .now) (a .absences .now) (a .actions .now) (a .n)) (readingsOf (a .held .now) (a .unread .now) (a .vehicles))
+next-read : (c : Stepped) → let b = begun-of (turn-of c .before) in let a = start-of b .args in
+    turn-of c .before .loop .entry + 1
+    ≤ entriesRead (treeEntries (a .conditions .now) (a .absences .now) (a .actions .now) (a .n)) (readingsOf (a .held .now) (a .unread .now) (a .vehicles))
 next-read c =
     let t = turn-of c in
     let l = t .before .loop in
-    let a = start-of (begun-of (t .before)) .args in
-    going-reads (a .conditions .now) (a .absences .now) (a .actions .now) (a .held .now) (a .unread .now) (a .n) (a .vehicles) (l .entry) (t .loop-test .taken)
-    (omega (arith, l .inv .0, l .inv .2))
+    let b = begun-of (t .before) in
+    going-reads (read-of b) (start-of b .args .n) (start-of b .args .vehicles) (l .entry) (t .loop-test .taken) (omega (arith, l .inv .0, l .inv .2))
 
 -- ---- the needs
 
@@ -94,17 +97,17 @@ returns : tie.Need-returns Inv-loop μ-loop
 returns c =
     let b = c .before in
     let a = start-of b .args in
-    walked-on (a .conditions .now) (a .absences .now) (a .actions .now) (a .held .now) (a .unread .now) (a .n) (a .vehicles) (start-of b .pre .0) (lent b) (omega arith)
-    (rows-none (a .conditions .now) (a .absences .now) (a .actions .now) (a .held .now) (a .unread .now) (a .vehicles) (lent b) (started-of b .start-all .ensures)) (omega arith)
-    (sym (all-going (a .conditions .now) (a .absences .now) (a .actions .now) (a .held .now) (a .unread .now) (a .vehicles)) ∙ c .if1 .taken)
+    walked-on (read-of b) (a .n) (a .vehicles) (start-of b .pre .0) (lent b) (omega arith)
+    (rows-none (read-of b) (a .vehicles) (lent b) (started-of b .start-all .ensures)) (omega arith)
+    (sym (all-going (read-of b) (a .vehicles)) ∙ c .if1 .taken)
 
 loop-holds : tie.Need-loop-holds Inv-loop μ-loop
 loop-holds c =
     let b = c .before in
     let a = start-of b .args in (
       (omega arith, refl, refl, omega (arith, c .if1 .left)),
-      rows-start (a .conditions .now) (a .absences .now) (a .actions .now) (a .held .now) (a .unread .now) (a .vehicles) (lent b) (started-of b .start-all .ensures),
-      all-going (a .conditions .now) (a .absences .now) (a .actions .now) (a .held .now) (a .unread .now) (a .vehicles),
+      rows-start (read-of b) (a .vehicles) (lent b) (started-of b .start-all .ensures),
+      all-going (read-of b) (a .vehicles),
       omega arith,
     )
 
@@ -136,9 +139,9 @@ returns-2 c =
     let b = begun-of (t .before) in
     let a = start-of b .args in
     let l = t .before .loop in
-    walked-on (a .conditions .now) (a .absences .now) (a .actions .now) (a .held .now) (a .unread .now) (a .n) (a .vehicles) (start-of b .pre .0) (lent b) (omega (arith, t .loop-test .taken))
-    (rows-from (a .conditions .now) (a .absences .now) (a .actions .now) (a .held .now) (a .unread .now) (a .vehicles) (lent b) (started-of b .start-all .ensures) (l .entry + 1)
-    (entry-rows (a .conditions .now) (a .absences .now) (a .actions .now) (a .held .now) (a .unread .now) (l .entry) (a .vehicles) _ (l .inv .1) (met-of k .before .condition-at .ensures) (met-of k .met-at .ensures) (asked-of k .ask-all .ensures)))
+    walked-on (read-of b) (a .n) (a .vehicles) (start-of b .pre .0) (lent b) (omega (arith, t .loop-test .taken))
+    (rows-from (read-of b) (a .vehicles) (lent b) (started-of b .start-all .ensures) (l .entry + 1)
+    (entry-rows (read-of b) (l .entry) (a .vehicles) _ (l .inv .1) (met-of k .before .condition-at .ensures) (met-of k .met-at .ensures) (asked-of k .ask-all .ensures)))
     (next-read k) (omega (arith, left-going k, c .if2 .taken))
 
 loop-less : tie.Need-loop-less Inv-loop μ-loop
@@ -148,10 +151,11 @@ loop-again : tie.Need-loop-again Inv-loop μ-loop
 loop-again c =
     let k = c .before in
     let t = turn-of k in
-    let a = start-of (begun-of (t .before)) .args in
+    let b = begun-of (t .before) in
+    let a = start-of b .args in
     let l = t .before .loop in (
       (omega (arith, t .loop-test .taken), search needs, search needs, omega (arith, c .if2 .left)),
-      entry-rows (a .conditions .now) (a .absences .now) (a .actions .now) (a .held .now) (a .unread .now) (l .entry) (a .vehicles) _ (l .inv .1) (met-of k .before .condition-at .ensures) (met-of k .met-at .ensures) (asked-of k .ask-all .ensures),
+      entry-rows (read-of b) (l .entry) (a .vehicles) _ (l .inv .1) (met-of k .before .condition-at .ensures) (met-of k .met-at .ensures) (asked-of k .ask-all .ensures),
       omega (arith, left-going k),
       next-read k,
     )
@@ -167,8 +171,8 @@ returns-3 c =
     let l = c .before in
     let b = begun-of l in
     let a = start-of b .args in
-    walked-all (a .conditions .now) (a .absences .now) (a .actions .now) (a .held .now) (a .unread .now) (a .n) (a .vehicles) (start-of b .pre .0) (lent b) (l .loop .inv .0 .0)
-    (rows-from (a .conditions .now) (a .absences .now) (a .actions .now) (a .held .now) (a .unread .now) (a .vehicles) (lent b) (started-of b .start-all .ensures) (l .loop .entry) (l .loop .inv .1)) (l .loop .inv .3)
+    walked-all (read-of b) (a .n) (a .vehicles) (start-of b .pre .0) (lent b) (l .loop .inv .0 .0)
+    (rows-from (read-of b) (a .vehicles) (lent b) (started-of b .start-all .ensures) (l .loop .entry) (l .loop .inv .1)) (l .loop .inv .3)
     (omega (arith, l .loop .inv .0, c .loop-test .left))
 
 pub walk-all-spec : {M : Type 1} → statement M
