@@ -15,7 +15,7 @@ use Rattle.bay_words.specs.Words.{words, Answered}
 abbrev pub statusWords : Status → List ℕ
 statusWords a = statusNumber a ∷ statusValue a ∷ []
 
--- what a tick promises: the definition's answer, and Success, Failure or Running only where it is settled
+-- what a tick promises: the definition's answer, and Success, Failure, Running or Waiting only where it is settled
 pub record TickAnswered (table tree : List ℕ) (r : Reading) (lent : List ℕ) (result : ℕ) : Type 0 where
   pub answers : Answered (words 3 statusWords (answered (tickBytes table tree r))) lent result
   pub settled : (a : Status) → answered (tickBytes table tree r) ≡ accepted a → isSettled a ≡ true → Settled table tree r a

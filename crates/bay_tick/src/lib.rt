@@ -15,6 +15,8 @@ const BAY_RUNNING: u64 = 2;
 
 const BAY_UNSETTLED: u64 = 3;
 
+const BAY_WAITING: u64 = 4;
+
 fn ticked_words(ticked: Ticked) -> [u64; 3]
     ensures { λ r. ⌜ r ≡ words 3 statusWords (tickedOf ticked) ⌝ }
 {
@@ -23,6 +25,7 @@ fn ticked_words(ticked: Ticked) -> [u64; 3]
         Ticked::Failure => [0, BAY_FAILURE, 0],
         Ticked::Running(job) => [0, BAY_RUNNING, job as u64],
         Ticked::Unsettled(mask) => [0, BAY_UNSETTLED, mask],
+        Ticked::Waiting => [0, BAY_WAITING, 0],
         Ticked::Refused(x) => [bay_words::number_of(x), x.place as u64, 0],
     }
 }

@@ -114,6 +114,9 @@ fn show_ticked(ticked: Ticked) {
             io::write_all(STDOUT_FILENO, b" unsettled");
             mask(facts);
         }
+        Ticked::Waiting => {
+            io::write_all(STDOUT_FILENO, b" waiting");
+        }
         Ticked::Refused(x) => {
             show_refusal(x);
         }

@@ -43,6 +43,10 @@ JOB-LEAF = 0x44
 abbrev pub PAIR : ℕ
 PAIR = 0x45
 
+-- document 02, W12: "a waiting leaf 0x46, without operand"
+abbrev pub WAITING : ℕ
+WAITING = 0x46
+
 abbrev pub END-OF-TREE : ℕ
 END-OF-TREE = 0x4F
 
@@ -60,6 +64,7 @@ commands =
     ∷ record { byte = END-OF-TREE; width = 0 }
     ∷ record { byte = PAIRED-JOB; width = 34 }
     ∷ record { byte = PAIR; width = 16 }
+    ∷ record { byte = WAITING; width = 0 }
     ∷ []
 
 -- the bytes that a command takes, its own and its operands'
@@ -99,6 +104,9 @@ PAIRED-JOB-SIZE = sizeIn commands PAIRED-JOB
 
 abbrev pub PAIR-SIZE : ℕ
 PAIR-SIZE = sizeIn commands PAIR
+
+abbrev pub WAITING-SIZE : ℕ
+WAITING-SIZE = sizeIn commands WAITING
 
 -- where the first operand of a command stands, from its byte on
 abbrev pub OPERANDS-AT : ℕ

@@ -1,4 +1,4 @@
-// The command bytes of tables and trees with the widths of their operands (document 01, "Commands"; document 02, W10). Every reader and writer takes
+// The command bytes of tables and trees with the widths of their operands (document 01, "Commands"; document 02, W10 and W12). Every reader and writer takes
 // sizes and places of operands from here.
 ghost use mathlib.Core.Path.{_≡_};
 ghost use Rattle.commands.specs.Commands.{widthOf, commandAt};
@@ -10,9 +10,9 @@ pub struct Command {
 }
 
 // How many commands there are.
-pub const COUNT: usize = 11;
+pub const COUNT: usize = 12;
 
-// END, of a table or a tree, is its byte alone.
+// END, of a table or a tree, and WAITING are their byte alone.
 const NO_OPERANDS: usize = 0;
 
 pub const COMMANDS: [Command; COUNT] = [
@@ -59,6 +59,10 @@ pub const COMMANDS: [Command; COUNT] = [
     Command {
         byte: 0x45,
         width: 16,
+    },
+    Command {
+        byte: 0x46,
+        width: NO_OPERANDS,
     },
 ];
 
@@ -109,6 +113,11 @@ pub const PAIR: u8 = COMMANDS[10].byte;
 
 const PAIR_WIDTH: usize = COMMANDS[10].width;
 
+// The leaf of a fitter's tree where another fitter has a job to do.
+pub const WAITING: u8 = COMMANDS[11].byte;
+
+const WAITING_WIDTH: usize = COMMANDS[11].width;
+
 // The bytes that each command takes, its own and its operands'.
 pub const FACTS_SIZE: usize = 1 + FACTS_WIDTH;
 
@@ -131,6 +140,8 @@ pub const END_OF_TREE_SIZE: usize = 1 + END_OF_TREE_WIDTH;
 pub const PAIRED_JOB_SIZE: usize = 1 + PAIRED_JOB_WIDTH;
 
 pub const PAIR_SIZE: usize = 1 + PAIR_WIDTH;
+
+pub const WAITING_SIZE: usize = 1 + WAITING_WIDTH;
 
 // GOAL's operand is a mask.
 pub const MASK_WIDTH: usize = GOAL_WIDTH;
@@ -172,6 +183,7 @@ pub fn width_of(byte: u8) -> Width
         END_OF_TREE => Width::Bytes(END_OF_TREE_WIDTH),
         PAIRED_JOB => Width::Bytes(PAIRED_JOB_WIDTH),
         PAIR => Width::Bytes(PAIR_WIDTH),
+        WAITING => Width::Bytes(WAITING_WIDTH),
         _ => Width::NoCommand,
     }
 }

@@ -1,4 +1,4 @@
--- What a tick answers, in document 01's terms, and what it promises: "Ticking" and "Stops, in checking order".
+-- What a tick answers, in document 01's terms, and what it promises: "Ticking" and "Stops, in checking order"; document 02, W12.
 -- Definitions only.
 use Prim.Native.Nat.{ℕ}
 use mathlib.Core.Path.{_≡_}
@@ -8,7 +8,7 @@ use Rattle.refusal.specs.Checked.{Checked, accepted, refusedBy, andThen}
 use Rattle.reading.specs.declared.Reading.{Reading}
 use Rattle.table.specs.declared.Header.{Header}
 use Rattle.tree.specs.declared.Status.{Status}
-use Rattle.tree.specs.declared.Status.the-variants.{Success, Failure, Running, Unsettled}
+use Rattle.tree.specs.declared.Status.the-variants.{Success, Failure, Running, Unsettled, Waiting}
 use Rattle.tree.specs.Tree.{Tree}
 use Rattle.tree.specs.Tick.{Verdict}
 use Rattle.tree.specs.TickBytes.{tickChecked, tickBytes, answered, isSettled, SettledBy}
@@ -21,6 +21,7 @@ tickedOf Ticked.Success = accepted Success
 tickedOf Ticked.Failure = accepted Failure
 tickedOf (Ticked.Running job) = accepted (Running job)
 tickedOf (Ticked.Unsettled mask) = accepted (Unsettled mask)
+tickedOf Ticked.Waiting = accepted Waiting
 tickedOf (Ticked.Refused x) = refusedBy x
 
 abbrev pub tickedBy : Status → Ticked
@@ -28,6 +29,7 @@ tickedBy Success = Ticked.Success
 tickedBy Failure = Ticked.Failure
 tickedBy (Running job) = Ticked.Running job
 tickedBy (Unsettled mask) = Ticked.Unsettled mask
+tickedBy Waiting = Ticked.Waiting
 
 -- the answer of a tree that was read
 abbrev pub answeredBy : (Tree → Status) → Checked Tree → Checked Status
@@ -35,7 +37,7 @@ answeredBy f x = andThen x λ t. accepted (f t)
 
 -- ---- the promise
 
--- What a tick answers, on every reading: the definition's answer or refusal, and Success, Failure or Running only where it is settled.
+-- What a tick answers, on every reading: the definition's answer or refusal, and Success, Failure, Running or Waiting only where it is settled.
 pub record AnswersBy (tick : Reading → Checked Verdict) (r : Reading) (ticked : Ticked) : Type 0 where
   pub answer : tickedOf ticked ≡ answered (tick r)
   pub settled : (a : Status) → tickedOf ticked ≡ accepted a → isSettled a ≡ true → SettledBy tick r a

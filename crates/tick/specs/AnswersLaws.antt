@@ -14,7 +14,7 @@ use Rattle.reading.specs.Reading.{checkedAt, Completes, state}
 use Rattle.table.specs.declared.Header.{Header}
 use Rattle.table.specs.Read.{readTable, headed}
 use Rattle.tree.specs.declared.Status.{Status}
-use Rattle.tree.specs.declared.Status.the-variants.{Success, Failure, Running, Unsettled}
+use Rattle.tree.specs.declared.Status.the-variants.{Success, Failure, Running, Unsettled, Waiting}
 use Rattle.tree.specs.Tree.{Tree}
 use Rattle.tree.specs.ReadTree.{maxTreeBytes, maxDepth, readNode, readEnd, readTree}
 use Rattle.tree.specs.Tick.{Verdict, tickBy, tickTree}
@@ -29,6 +29,7 @@ answer-ticked Success = refl
 answer-ticked Failure = refl
 answer-ticked (Running job) = refl
 answer-ticked (Unsettled mask) = refl
+answer-ticked Waiting = refl
 
 -- ---- a tree
 

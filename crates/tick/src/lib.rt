@@ -1,4 +1,5 @@
-// The tick of a tree's bytes on a reading: the walk over its nodes, then END, and the answer (document 01, "Ticking" and "Stops, in checking order").
+// The tick of a tree's bytes on a reading: the walk over its nodes, then END, and the answer (document 01, "Ticking" and "Stops, in checking order";
+// document 02, W12).
 use commands::Found;
 use reading::Reading;
 use reading::ReadingChecked;
@@ -16,15 +17,18 @@ ghost use Rattle.tree.specs.Tick.{tickTree};
 ghost use Rattle.tick.specs.Answers.{tickedBy, answeredBy, tickedOf, Answers, AnswersUnder};
 
 // Whether a node goes on after a child: a row for fallbacks and one for sequences, by the child's Success, Failure, Running, Unsettled.
+// Waiting is treated as Running.
 pub const ROWS: [[bool; 4]; 2] = [[false, true, false, false], [true, false, false, false]];
 
 const MAX_TREE_BYTES: usize = 65_535;
 
+// Waiting is document 02's Running that names no job.
 pub enum Ticked {
     Success,
     Failure,
     Running(u8),
     Unsettled(u64),
+    Waiting,
     Refused(Refusal),
 }
 
@@ -42,6 +46,7 @@ fn accept(status: Status) -> Ticked
         Status::Failure => Ticked::Failure,
         Status::Running(job) => Ticked::Running(job),
         Status::Unsettled(mask) => Ticked::Unsettled(mask),
+        Status::Waiting => Ticked::Waiting,
     }
 }
 

@@ -1,5 +1,5 @@
 // One walk over the bytes of a tree checks every node and, while the answer is open, ticks it (document 01, "Ticking", and 13 to 15 of "Stops, in
-// checking order").
+// checking order"; document 02, W12).
 use reading::Reading;
 use refusal::Reason;
 use refusal::Refusal;
@@ -34,6 +34,7 @@ fn status_index(status: Status) -> usize
         Status::Failure => 1,
         Status::Running(_) => 2,
         Status::Unsettled(_) => 3,
+        Status::Waiting => 2,
     }
 }
 

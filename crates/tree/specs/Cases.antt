@@ -1,17 +1,17 @@
 -- Which stop a bad tree meets first, and what a condition with both masks answers, computed from the definitions: document 01, "Stops, in checking
--- order", 13 to 15, and "Ticking"; document 02, W10.
+-- order", 13 to 15, and "Ticking"; document 02, W10 and W12.
 use Prim.Native.Nat.{ℕ, zero, suc}
 use mathlib.Core.Path.{_≡_, refl}
 use mathlib.Core.List.{List, [], _∷_, _++_, map}
 use Rattle.masks.specs.Sets.{subset, intersects, union, within}
 use Rattle.refusal.specs.Checked.{accepted, refused}
-use Rattle.commands.specs.Commands.{FACTS, GOAL, END-OF-TABLE, FALLBACK, SEQUENCE, CONDITION, JOB-LEAF, PAIR, END-OF-TREE, MASK-WIDTH, widthOf, commandAt}
+use Rattle.commands.specs.Commands.{FACTS, GOAL, END-OF-TABLE, FALLBACK, SEQUENCE, CONDITION, JOB-LEAF, PAIR, WAITING, END-OF-TREE, MASK-WIDTH, widthOf, commandAt}
 use Rattle.numbers.specs.Numbers.{fromBytes, toBytes, numberAt}
 use Rattle.reading.specs.declared.Reading.{Reading}
 use Rattle.reading.specs.Reading.{sound, checkedAt}
 use Rattle.conditions.specs.OnReading.{possible, evaluated}
 use Rattle.table.specs.Read.{due, readEnd, readGoal, readJobs, readTable}
-use Rattle.tree.specs.declared.Status.the-variants.{Success, Failure, Running, Unsettled}
+use Rattle.tree.specs.declared.Status.the-variants.{Success, Failure, Running, Unsettled, Waiting}
 use Rattle.tree.specs.ReadTree.{countWidth, wholeAt, operandsOf, nodeAt, readRow, readNode, readTree, readEnd as readTreeEnd}
 use Rattle.tree.specs.Tick.{tickBy}
 use Rattle.tree.specs.TickBytes.{tickChecked, tickBytes}
@@ -99,6 +99,29 @@ pub contrary : map (λ r. tickChecked 2 0 (asksPair 1 1 ++ (END-OF-TREE ∷ []))
 unfolding tickChecked commandAt widthOf numberAt fromBytes toBytes checkedAt sound subset intersects union within possible evaluated wholeAt operandsOf nodeAt readNode
     readTree readTreeEnd tickBy
 contrary = refl
+
+-- A waiting leaf: alone; at depth 16, and 17; where a sequence and a fallback do not go on after it, though all that follows is looked at; after what
+-- they go on after; and with a byte more. It is allowed under a table with no job.
+pub waits : map (λ s. tickChecked 1 0 s 0 empty) (
+    (WAITING ∷ END-OF-TREE ∷ [])
+    ∷ under 15 (WAITING ∷ END-OF-TREE ∷ [])
+    ∷ under 16 (WAITING ∷ END-OF-TREE ∷ [])
+    ∷ (branch SEQUENCE 2 ++ (WAITING ∷ asks 0 ++ (END-OF-TREE ∷ [])))
+    ∷ (branch FALLBACK 2 ++ (WAITING ∷ asks 0 ++ (END-OF-TREE ∷ [])))
+    ∷ (branch FALLBACK 2 ++ (WAITING ∷ asks 2 ++ (END-OF-TREE ∷ [])))
+    ∷ (branch SEQUENCE 2 ++ (asks 0 ++ (WAITING ∷ END-OF-TREE ∷ [])))
+    ∷ (branch FALLBACK 2 ++ (asks 1 ++ (WAITING ∷ END-OF-TREE ∷ [])))
+    ∷ (branch SEQUENCE 2 ++ (asks 1 ++ (WAITING ∷ END-OF-TREE ∷ [])))
+    ∷ (WAITING ∷ 0 ∷ END-OF-TREE ∷ [])
+    ∷ []
+    )
+    ≡ accepted (record { answer = Waiting; leaf = 0 }) ∷ accepted (record { answer = Waiting; leaf = 45 }) ∷ refused 14 48
+    ∷ accepted (record { answer = Waiting; leaf = 3 }) ∷ accepted (record { answer = Waiting; leaf = 3 }) ∷ refused 15 4
+    ∷ accepted (record { answer = Waiting; leaf = 12 }) ∷ accepted (record { answer = Waiting; leaf = 12 }) ∷ accepted (record { answer = Failure; leaf = 3 })
+    ∷ refused 13 1 ∷ []
+unfolding tickChecked commandAt widthOf numberAt fromBytes toBytes checkedAt sound subset intersects union within possible evaluated wholeAt operandsOf nodeAt readRow
+    readNode readTree readTreeEnd tickBy
+waits = refl
 
 -- one fact, no job, an empty goal
 abbrev table : List ℕ

@@ -1,9 +1,9 @@
 -- The tree reader: from bytes to the tree, or to the number and place of the first stop (document 01, "Stops, in checking order", 13 to 15;
--- document 02, W10).
+-- document 02, W10 and W12).
 -- "In a tree, its length first, then nodes in byte order, then END." Within a node 13 comes before 14, and 14 before 15.
 -- Definitions only.
 use Prim.Native.Nat.{ℕ, zero, suc, _+_, _-_}
-use mathlib.Core.Bool.{Bool, _&&_}
+use mathlib.Core.Bool.{Bool, true, _&&_}
 use mathlib.Core.List.{List}
 use lib.Dec.{eqb, ltb, leb}
 use lib.ListN.{length, getD}
@@ -11,14 +11,14 @@ use Rattle.base.specs.Bools.{if_then_else_}
 use Rattle.refusal.specs.Checked.{Checked, accepted, refused, andThen}
 use Rattle.commands.specs.declared.Found.{Found}
 use Rattle.commands.specs.declared.Found.the-variants.{Missing, Unknown, Cut, Whole}
-use Rattle.commands.specs.Commands.{FALLBACK, SEQUENCE, CONDITION, JOB-LEAF, PAIR, END-OF-TREE, OPERANDS-AT, ABSENT-AT, MASK-WIDTH, Past, commandAt}
+use Rattle.commands.specs.Commands.{FALLBACK, SEQUENCE, CONDITION, JOB-LEAF, PAIR, WAITING, END-OF-TREE, OPERANDS-AT, ABSENT-AT, MASK-WIDTH, Past, commandAt}
 use Rattle.numbers.specs.Numbers.{numberAt}
 use Rattle.conditions.specs.declared.Condition.{Condition as Asked}
 use Rattle.conditions.specs.Condition.{plain, conditionWithin}
 use Rattle.tree.specs.declared.Kind.{Kind}
 use Rattle.tree.specs.declared.Kind.the-variants.{Fallback, Sequence}
 use Rattle.tree.specs.declared.Leaf.{Leaf}
-use Rattle.tree.specs.declared.Leaf.the-variants.{Condition, Action}
+use Rattle.tree.specs.declared.Leaf.the-variants.{Condition, Action, Wait}
 use Rattle.tree.specs.declared.NodeRead.{NodeRead}
 use Rattle.tree.specs.Tree as Tree
 use Rattle.tree.specs.Tree.{Tree, Row, node, one, more}
@@ -81,6 +81,7 @@ operandsOf s at byte =
     else if eqb byte CONDITION then accepted (leaf (Condition (plain (maskAt s at))))
     else if eqb byte JOB-LEAF then accepted (leaf (Action (getD s (at + OPERANDS-AT) 0)))
     else if eqb byte PAIR then accepted (leaf (Condition (pairAt s at)))
+    else if eqb byte WAITING then accepted (leaf Wait)
     else refused 13 at
 
 unfoldable pub nodeAt : List ℕ → ℕ → Checked (Past Node)
@@ -98,6 +99,7 @@ readEnd s t at =
 abbrev pub inRange : ℕ → ℕ → Leaf → Bool
 inRange facts jobs (Condition c) = conditionWithin facts c
 inRange facts jobs (Action job) = ltb job jobs
+inRange facts jobs Wait = true
 
 -- a row of one child and n more, each read by `child`
 unfoldable pub readRow : (ℕ → Checked (Past Tree)) → ℕ → ℕ → Checked (Past Row)

@@ -17,12 +17,12 @@ use Rattle.commands.specs.declared.Found.{Found}
 use Rattle.commands.specs.declared.Found.the-variants.{Missing, Unknown, Cut, Whole}
 use Rattle.commands.specs.declared.Width.{Width}
 use Rattle.commands.specs.declared.Width.the-variants.{Bytes, NoCommand}
-use Rattle.commands.specs.Commands.{FALLBACK, SEQUENCE, CONDITION, JOB-LEAF, END-OF-TREE, FALLBACK-SIZE, CONDITION-SIZE, JOB-LEAF-SIZE, PAIR, PAIR-SIZE, OPERANDS-AT, MASK-WIDTH, Past, widthOf, commandAt}
+use Rattle.commands.specs.Commands.{FALLBACK, SEQUENCE, CONDITION, JOB-LEAF, END-OF-TREE, FALLBACK-SIZE, CONDITION-SIZE, JOB-LEAF-SIZE, PAIR, PAIR-SIZE, WAITING, WAITING-SIZE, OPERANDS-AT, MASK-WIDTH, Past, widthOf, commandAt}
 use Rattle.commands.specs.CommandLaws.{at-missing, at-unknown, at-whole, at-cut, WholeAt, whole-told}
 use Rattle.conditions.specs.Condition.{plain}
 use Rattle.tree.specs.declared.Kind.{Kind}
 use Rattle.tree.specs.declared.Kind.the-variants.{Fallback, Sequence}
-use Rattle.tree.specs.declared.Leaf.the-variants.{Condition, Action}
+use Rattle.tree.specs.declared.Leaf.the-variants.{Condition, Action, Wait}
 use Rattle.tree.specs.Tree as Tree
 use Rattle.tree.specs.Tree.{Tree, Row, node, one, more}
 use Rattle.tree.specs.ReadTree.{maxChildren, Node, branch, leaf, wholeIn, wholeAt, kindByte, countWidth, countAt, childCount, maskAt, pairAt, operandsOf, nodeAt, readEnd, inRange, readRow, readOperands, readNode}
@@ -86,6 +86,11 @@ module _ (s : List ℕ) (at : ℕ) where
       unfolding widthOf operandsOf
       action-whole l = node-whole 1 (rw b) l (accepted (leaf (Action (getD s (at + OPERANDS-AT) 0)))) (rw b)
 
+    module _ (b : getD s at 0 ≡ WAITING) where
+      pub wait-whole : accepted (record { value = leaf Wait; next = at + WAITING-SIZE }) ≡ nodeAt s at
+      unfolding widthOf operandsOf
+      wait-whole = node-whole 0 (rw b) (omega arith) (accepted (leaf Wait)) (rw b)
+
     -- a node with children; FALLBACK and SEQUENCE take as many bytes
     module _ (kind : Kind) (b : getD s at 0 ≡ kindByte kind) where
       branch-width : widthOf (getD s at 0) ≡ Bytes countWidth
@@ -127,12 +132,12 @@ module _ (s : List ℕ) (at : ℕ) where
 
     -- another command, or none
     pub node-other : (getD s at 0 ≡ FALLBACK → ⊥) → (getD s at 0 ≡ SEQUENCE → ⊥) → (getD s at 0 ≡ CONDITION → ⊥) → (getD s at 0 ≡ JOB-LEAF → ⊥)
-        → (getD s at 0 ≡ PAIR → ⊥) → refused 13 at ≡ nodeAt s at
+        → (getD s at 0 ≡ PAIR → ⊥) → (getD s at 0 ≡ WAITING → ⊥) → refused 13 at ≡ nodeAt s at
     unfolding nodeAt wholeAt operandsOf
-    node-other f q c j p = by-width (widthOf (getD s at 0)) refl
+    node-other f q c j p w = by-width (widthOf (getD s at 0)) refl
       where
         none : operandsOf s at (getD s at 0) ≡ refused 13 at
-        none = rw (ne-eqb _ _ f, ne-eqb _ _ q, ne-eqb _ _ c, ne-eqb _ _ j, ne-eqb _ _ p)
+        none = rw (ne-eqb _ _ f, ne-eqb _ _ q, ne-eqb _ _ c, ne-eqb _ _ j, ne-eqb _ _ p, ne-eqb _ _ w)
 
         by-width : (w : Width) → widthOf (getD s at 0) ≡ w → refused 13 at ≡ nodeAt s at
         by-width NoCommand e = rw (at-unknown s at h e)
@@ -168,7 +173,7 @@ module _ (s : List ℕ) (at : ℕ) where
       let (c, whole, operands) = accepted-then (wholeAt s at) _ _ (sym e) in
       let (v, found, same) = accepted-then (operandsOf s at (c .value)) (λ v. accepted (record { value = v; next = c .next })) _ operands in
       let is : v ≡ branch kind count = ap (λ (p : Past Node). p .value) (accepted-same same) in
-      by-tests (eqb (c .value) FALLBACK) (eqb (c .value) SEQUENCE) (eqb (c .value) CONDITION) (eqb (c .value) JOB-LEAF) (eqb (c .value) PAIR) (rw is at found)
+      by-tests (eqb (c .value) FALLBACK) (eqb (c .value) SEQUENCE) (eqb (c .value) CONDITION) (eqb (c .value) JOB-LEAF) (eqb (c .value) PAIR) (eqb (c .value) WAITING) (rw is at found)
     where
       counted : (k : Kind) → childCount k at (countAt s at) ≡ accepted (branch kind count) → 1 ≤ count
       counted k q =
@@ -180,19 +185,21 @@ module _ (s : List ℕ) (at : ℕ) where
           by-bound true e q = leb-true 1 (countAt s at) e
           by-bound false e q = let z : _≡_ {A = ℕ} 0 1 = cc in absurd (omega arith)
 
-      by-tests : (f q c j p : Bool)
+      by-tests : (f q c j p w : Bool)
           → (if f then childCount Fallback at (countAt s at)
           else if q then childCount Sequence at (countAt s at)
           else if c then accepted (leaf (Condition (plain (maskAt s at))))
           else if j then accepted (leaf (Action (getD s (at + OPERANDS-AT) 0)))
           else if p then accepted (leaf (Condition (pairAt s at)))
+          else if w then accepted (leaf Wait)
           else refused 13 at) ≡ accepted (branch kind count) → 1 ≤ count
-      by-tests true q c j p e = counted Fallback e
-      by-tests false true c j p e = counted Sequence e
-      by-tests false false true j p e = let z : _≡_ {A = ℕ} 0 1 = cc in absurd (omega arith)
-      by-tests false false false true p e = let z : _≡_ {A = ℕ} 0 1 = cc in absurd (omega arith)
-      by-tests false false false false true e = let z : _≡_ {A = ℕ} 0 1 = cc in absurd (omega arith)
-      by-tests false false false false false e = absurd (not-both e)
+      by-tests true q c j p w e = counted Fallback e
+      by-tests false true c j p w e = counted Sequence e
+      by-tests false false true j p w e = let z : _≡_ {A = ℕ} 0 1 = cc in absurd (omega arith)
+      by-tests false false false true p w e = let z : _≡_ {A = ℕ} 0 1 = cc in absurd (omega arith)
+      by-tests false false false false true w e = let z : _≡_ {A = ℕ} 0 1 = cc in absurd (omega arith)
+      by-tests false false false false false true e = let z : _≡_ {A = ℕ} 0 1 = cc in absurd (omega arith)
+      by-tests false false false false false false e = absurd (not-both e)
 
 -- ---- every accepted node ends past its offset
 

@@ -1,4 +1,4 @@
--- The tick of a tree on a reading: document 01, "Ticking".
+-- The tick of a tree on a reading: document 01, "Ticking"; document 02, W12.
 -- Definitions only.
 use Prim.Native.Nat.{ℕ}
 use mathlib.Core.Bool.{Bool, true, false}
@@ -12,9 +12,9 @@ use Rattle.conditions.specs.OnReading.{evaluated}
 use Rattle.tree.specs.declared.Kind.{Kind}
 use Rattle.tree.specs.declared.Kind.the-variants.{Fallback, Sequence}
 use Rattle.tree.specs.declared.Leaf.{Leaf}
-use Rattle.tree.specs.declared.Leaf.the-variants.{Condition, Action}
+use Rattle.tree.specs.declared.Leaf.the-variants.{Condition, Action, Wait}
 use Rattle.tree.specs.declared.Status.{Status}
-use Rattle.tree.specs.declared.Status.the-variants.{Success, Failure, Running, Unsettled}
+use Rattle.tree.specs.declared.Status.the-variants.{Success, Failure, Running, Unsettled, Waiting}
 use Rattle.tree.specs.Tree.{Tree, Row, leaf, node, one, more}
 
 -- "A condition fails if one of its facts is read and absent; otherwise it is unsettled, with the mask of its unread facts, if it has any; otherwise
@@ -28,6 +28,8 @@ abbrev pub leafAnswer : Reading → Leaf → Status
 leafAnswer r (Condition c) = statusOf (evaluated r c)
 -- "A job leaf answers Running with its number."
 leafAnswer r (Action job) = Running job
+-- document 02, W12: "a waiting leaf .., which answers Running and names no job"
+leafAnswer r Wait = Waiting
 
 -- "Whether to go on is read from two rows of four, by node and by Success, Failure, Running, Unsettled."
 
@@ -40,6 +42,8 @@ statusIndex Success = 0
 statusIndex Failure = 1
 statusIndex (Running job) = 2
 statusIndex (Unsettled mask) = 3
+-- it "answers Running"
+statusIndex Waiting = 2
 
 abbrev pub goesOn : List (List Bool) → Kind → Status → Bool
 goesOn rows kind answer = getD (getD rows (kindIndex kind) []) (statusIndex answer) false

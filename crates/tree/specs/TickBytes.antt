@@ -1,4 +1,5 @@
--- A tick from the bytes of a table and of a tree, and when its answer is settled: document 01, "Ticking" and "Stops, in checking order".
+-- A tick from the bytes of a table and of a tree, and when its answer is settled: document 01, "Ticking" and "Stops, in checking order";
+-- document 02, W12.
 -- Definitions only.
 use Prim.Native.Nat.{ℕ}
 use mathlib.Core.Path.{_≡_}
@@ -10,7 +11,7 @@ use Rattle.reading.specs.declared.Reading.{Reading}
 use Rattle.reading.specs.Reading.{checkedAt, Completes, state}
 use Rattle.table.specs.Read.{readTable}
 use Rattle.tree.specs.declared.Status.{Status}
-use Rattle.tree.specs.declared.Status.the-variants.{Success, Failure, Running, Unsettled}
+use Rattle.tree.specs.declared.Status.the-variants.{Success, Failure, Running, Unsettled, Waiting}
 use Rattle.tree.specs.ReadTree.{readTree}
 use Rattle.tree.specs.Tick.{Verdict, tickTree}
 
@@ -32,6 +33,7 @@ isSettled Success = true
 isSettled Failure = true
 isSettled (Running job) = true
 isSettled (Unsettled mask) = false
+isSettled Waiting = true
 
 -- However the unread facts turn out, the same leaf of the tree decides, and the answer is the same.
 pub record SettledBy (tick : Reading → Checked Verdict) (r : Reading) (a : Status) : Type 0 where

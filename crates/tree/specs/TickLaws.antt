@@ -17,9 +17,9 @@ use Rattle.conditions.specs.OnReadingLaws.{evaluated-state, met-everywhere, mis
 use Rattle.tree.specs.declared.Kind.{Kind}
 use Rattle.tree.specs.declared.Kind.the-variants.{Fallback, Sequence}
 use Rattle.tree.specs.declared.Leaf.{Leaf}
-use Rattle.tree.specs.declared.Leaf.the-variants.{Condition, Action}
+use Rattle.tree.specs.declared.Leaf.the-variants.{Condition, Action, Wait}
 use Rattle.tree.specs.declared.Status.{Status}
-use Rattle.tree.specs.declared.Status.the-variants.{Success, Failure, Running, Unsettled}
+use Rattle.tree.specs.declared.Status.the-variants.{Success, Failure, Running, Unsettled, Waiting}
 use Rattle.tree.specs.Tree.{Tree, Row, leaf, node, one, more}
 use Rattle.tree.specs.Tick.{statusOf, leafAnswer, goesOn, continueTable, tickBy, tickRow}
 use Rattle.tree.specs.TickBytes.{isSettled}
@@ -42,6 +42,7 @@ module _ (rows : List (List Bool)) (r : Reading) (t : Tree) (row : Row) (kind : 
 
 settled-leaf : (r : Reading) (s : ℕ) → Completes r s → (x : Leaf) → isSettled (leafAnswer r x) ≡ true → leafAnswer (state s) x ≡ leafAnswer r x
 settled-leaf r s fills (Action job) h = refl
+settled-leaf r s fills Wait h = refl
 settled-leaf r s fills (Condition c) h = by-reading (evaluated r c) refl h
   where
     by-reading : (v : Evaluation) → evaluated r c ≡ v → isSettled (statusOf v) ≡ true → statusOf (evaluated (state s) c) ≡ statusOf (evaluated r c)
@@ -51,6 +52,7 @@ settled-leaf r s fills (Condition c) h = by-reading (evaluated r c) refl h
 
 state-leaf : (s : ℕ) (x : Leaf) → isSettled (leafAnswer (state s) x) ≡ true
 state-leaf s (Action job) = refl
+state-leaf s Wait = refl
 state-leaf s (Condition c) = rw (evaluated-state s c) (either (satisfied c s))
   where
     either : (b : Bool) → isSettled (statusOf (if b then Met else Missed)) ≡ true
@@ -66,6 +68,7 @@ module _ (rows : List (List Bool)) (stops : (kind : Kind) (mask : ℕ) → goesO
   passed kind Failure e = refl
   passed kind (Running job) e = refl
   passed kind (Unsettled mask) e = clash (sym (stops kind mask) ∙ e)
+  passed kind Waiting e = refl
 
   settled-more : (t : Tree) (row : Row) (kind : Kind)
       → (isSettled (tickBy rows r t .answer) ≡ true → tickBy rows (state s) t ≡ tickBy rows r t)

@@ -1,5 +1,5 @@
 // Behaviour trees in bytes: a node's command with its operands, with what stop 13 asks of a node by itself, and what a leaf answers (document 01,
-// "Commands", "Ticking" and "Stops, in checking order"; document 02, W10).
+// "Commands", "Ticking" and "Stops, in checking order"; document 02, W10 and W12).
 use conditions::Condition;
 use conditions::Evaluation;
 use reading::Reading;
@@ -17,18 +17,21 @@ pub enum Kind {
     Sequence,
 }
 
-// A node without children: a condition, or document 01's JOB leaf with the job's number, which the field calls an action.
+// A node without children: a condition, document 01's JOB leaf with the job's number, which the field calls an action, or document 02's waiting leaf,
+// where another fitter has a job to do.
 pub enum Leaf {
     Condition(Condition),
     Action(u8),
+    Wait,
 }
 
-// What a node answers; Running names the action, Unsettled the unread facts.
+// What a node answers; Running names the action, Unsettled the unread facts. Waiting is document 02's Running that names no job.
 pub enum Status {
     Success,
     Failure,
     Running(u8),
     Unsettled(u64),
+    Waiting,
 }
 
 const MAX_CHILDREN: usize = 4_096;
@@ -127,6 +130,9 @@ pub fn node_at(tree: &[u8], at: usize) -> NodeRead
     if byte == commands::SEQUENCE {
         return branch_at(tree, at, Kind::Sequence);
     }
+    if byte == commands::WAITING {
+        return NodeRead::Leaf(Leaf::Wait, at + commands::WAITING_SIZE);
+    }
     if byte == commands::FALLBACK {
         return branch_at(tree, at, Kind::Fallback);
     }
@@ -140,6 +146,7 @@ pub fn is_in_range(facts: u8, jobs: usize, leaf: Leaf) -> bool
     match leaf {
         Leaf::Condition(c) => conditions::is_within(facts, c),
         Leaf::Action(job) => (job as usize) < jobs,
+        Leaf::Wait => true,
     }
 }
 
@@ -160,5 +167,6 @@ pub fn answer(reading: Reading, leaf: Leaf) -> Status
     match leaf {
         Leaf::Condition(c) => status_of(conditions::evaluate(reading, c)),
         Leaf::Action(job) => Status::Running(job),
+        Leaf::Wait => Status::Waiting,
     }
 }

@@ -19,6 +19,9 @@ cast-t6 c = search needs
 enum-known-ticked-2 : tie.Need-enum-known-ticked-2
 enum-known-ticked-2 c = search needs
 
+enum-told-3 : tie.Need-enum-told-3
+enum-told-3 c = search needs
+
 enum-known-ticked-3 : tie.Need-enum-known-ticked-3
 enum-known-ticked-3 c = search needs
 
@@ -38,7 +41,10 @@ returns-4 : tie.Need-returns-4
 returns-4 c = rw (c .before .ticked2 .given .1)
 
 returns-5 : tie.Need-returns-5
-returns-5 c = rw (c .before .before .ticked3 .given .1, c .number-of .ensures)
+returns-5 c = rw (c .enum-told3 .given .1)
+
+returns-6 : tie.Need-returns-6
+returns-6 c = rw (c .before .before .ticked3 .given .1, c .number-of .ensures)
 
 pub ticked-words-spec : {M : Type 1} → statement M
 ticked-words-spec =
@@ -49,10 +55,12 @@ ticked-words-spec =
     enum-known-ticked
     cast-t6
     enum-known-ticked-2
+    enum-told-3
     enum-known-ticked-3
     number-of-requires
     returns
     returns-2
     returns-3
     returns-4
-    returns-5)
+    returns-5
+    returns-6)

@@ -5,7 +5,7 @@ use mathlib.Core.Bool.{false}
 use Prim.Native.Nat.{ℕ}
 use borrow.Author.Tests.{ne-eqb}
 use lib.Dec.{eqb}
-use Rattle.commands.specs.Commands.{FACTS, JOB, PAIRED-JOB, GOAL, END-OF-TABLE, FALLBACK, SEQUENCE, CONDITION, JOB-LEAF, PAIR, END-OF-TREE, widthOf}
+use Rattle.commands.specs.Commands.{FACTS, JOB, PAIRED-JOB, GOAL, END-OF-TABLE, FALLBACK, SEQUENCE, CONDITION, JOB-LEAF, PAIR, WAITING, END-OF-TREE, widthOf}
 use Rattle.commands.proofs.width_of.Statement.{statement}
 use Rattle.commands.proofs.width_of.Tie as tie
 
@@ -53,25 +53,30 @@ returns-11 : tie.Need-returns-11
 unfolding widthOf
 returns-11 c = rw (c .match .keys11)
 
+returns-12 : tie.Need-returns-12
+unfolding widthOf
+returns-12 c = rw (c .match .keys12)
+
 another : {b : ℕ} (k : ℕ) → (b ≡ k → ⊥) → eqb k b ≡ false
 another {b} k n = ne-eqb k b (λ e. n (sym e))
 
-returns-12 : tie.Need-returns-12
+returns-13 : tie.Need-returns-13
 unfolding widthOf
-returns-12 c =
+returns-13 c =
     let r = c .match .rest in
     rw (
-      another FACTS (r .0 .0 .0 .0 .0 .0 .0 .0 .0 .0 .1),
-      another JOB (r .0 .0 .0 .0 .0 .0 .0 .0 .0 .1),
-      another GOAL (r .0 .0 .0 .0 .0 .0 .0 .0 .1),
-      another END-OF-TABLE (r .0 .0 .0 .0 .0 .0 .0 .1),
-      another FALLBACK (r .0 .0 .0 .0 .0 .0 .1),
-      another SEQUENCE (r .0 .0 .0 .0 .0 .1),
-      another CONDITION (r .0 .0 .0 .0 .1),
-      another JOB-LEAF (r .0 .0 .0 .1),
-      another END-OF-TREE (r .0 .0 .1),
-      another PAIRED-JOB (r .0 .1),
-      another PAIR (r .1),
+      another FACTS (r .0 .0 .0 .0 .0 .0 .0 .0 .0 .0 .0 .1),
+      another JOB (r .0 .0 .0 .0 .0 .0 .0 .0 .0 .0 .1),
+      another GOAL (r .0 .0 .0 .0 .0 .0 .0 .0 .0 .1),
+      another END-OF-TABLE (r .0 .0 .0 .0 .0 .0 .0 .0 .1),
+      another FALLBACK (r .0 .0 .0 .0 .0 .0 .0 .1),
+      another SEQUENCE (r .0 .0 .0 .0 .0 .0 .1),
+      another CONDITION (r .0 .0 .0 .0 .0 .1),
+      another JOB-LEAF (r .0 .0 .0 .0 .1),
+      another END-OF-TREE (r .0 .0 .0 .1),
+      another PAIRED-JOB (r .0 .0 .1),
+      another PAIR (r .0 .1),
+      another WAITING (r .1),
     )
 
 pub width-of-spec : {M : Type 1} → statement M
@@ -89,4 +94,5 @@ width-of-spec =
     returns-9
     returns-10
     returns-11
-    returns-12)
+    returns-12
+    returns-13)

@@ -8,10 +8,10 @@ use Rattle.table_cases.proofs.show_commands.Statement.{statement}
 use Rattle.table_cases.proofs.show_commands.Tie as tie
 
 abbrev Inv-loop : tie.InvT-loop
-Inv-loop s₀ at own k₀ s k = (k ≤ 11) × (length s ≡ length s₀)
+Inv-loop s₀ at own k₀ s k = (k ≤ 12) × (length s ≡ length s₀)
 
 abbrev μ-loop : tie.MeasureT-loop
-μ-loop s₀ at own k₀ s k = 11 - k
+μ-loop s₀ at own k₀ s k = 12 - k
 
 loop-holds : tie.Need-loop-holds Inv-loop μ-loop
 loop-holds c = search needs

@@ -16,6 +16,9 @@ enum-known-status c = search needs
 enum-known-status-2 : tie.Need-enum-known-status-2
 enum-known-status-2 c = search needs
 
+enum-told-3 : tie.Need-enum-told-3
+enum-told-3 c = search needs
+
 returns : tie.Need-returns
 returns c = search needs
 
@@ -28,6 +31,9 @@ returns-3 c = rw (c .before .status .given .1)
 returns-4 : tie.Need-returns-4
 returns-4 c = rw (c .before .status2 .given .1)
 
+returns-5 : tie.Need-returns-5
+returns-5 c = search needs
+
 pub accept-spec : {M : Type 1} → statement M
 accept-spec =
     tie.close
@@ -36,7 +42,9 @@ accept-spec =
     enum-told-2
     enum-known-status
     enum-known-status-2
+    enum-told-3
     returns
     returns-2
     returns-3
-    returns-4)
+    returns-4
+    returns-5)

@@ -18,11 +18,17 @@ status-of-requires c κs = search needs
 enum-known-leaf-2 : tie.Need-enum-known-leaf-2
 enum-known-leaf-2 c = search needs
 
+enum-told : tie.Need-enum-told
+enum-told c = search needs
+
 returns : tie.Need-returns
 returns c = rw (c .before .before .before .leaf .given .1) (c .status-of .ensures ∙ ap statusOf (c .before .evaluate .ensures))
 
 returns-2 : tie.Need-returns-2
 returns-2 c = rw (c .before .leaf2 .given .1)
+
+returns-3 : tie.Need-returns-3
+returns-3 c = rw (c .enum-told .given .1)
 
 pub answer-spec : {M : Type 1} → statement M
 answer-spec =
@@ -32,5 +38,7 @@ answer-spec =
     evaluate-requires
     status-of-requires
     enum-known-leaf-2
+    enum-told
     returns
-    returns-2)
+    returns-2
+    returns-3)

@@ -1,6 +1,6 @@
--- `tree::node_at` meets its contract: what is none of the five commands is no node.
+-- `tree::node_at` meets its contract: what is none of the six commands is no node.
 -- Assumes nothing.
-use Rattle.tree.specs.ReadTreeLaws.{node-missing, node-other}
+use Rattle.tree.specs.ReadTreeLaws.{node-missing, wait-whole, node-other}
 use borrow.Author.Needs.{needs}
 use Rattle.tree.proofs.node_at.Statement.{statement}
 use Rattle.tree.proofs.node_at.Tie as tie
@@ -32,23 +32,31 @@ branch-at-requires c κs = search needs
 returns-4 : tie.Need-returns-4
 returns-4 c = search needs
 
-branch-at-requires-2 : tie.Need-branch-at-requires-2
-branch-at-requires-2 c κs = search needs
-
 returns-5 : tie.Need-returns-5
 returns-5 c = search needs
 
+add-t11 : tie.Need-add-t11
+add-t11 c = search needs
+
 returns-6 : tie.Need-returns-6
-returns-6 c = search needs
+returns-6 c = wait-whole _ _ (search needs) (search needs)
+
+branch-at-requires-2 : tie.Need-branch-at-requires-2
+branch-at-requires-2 c κs = search needs
+
+returns-7 : tie.Need-returns-7
+returns-7 c = search needs
 
 -- the tests that failed, from the last to the first
-returns-7 : tie.Need-returns-7
-returns-7 c =
-    let sequence = c .before in
+returns-8 : tie.Need-returns-8
+returns-8 c =
+    let waiting = c .before in
+    let sequence = waiting .before in
     let pair = sequence .before in
     let action = pair .before in
     let condition = action .before in
-    node-other _ _ (condition .before .before .if1 .left) (c .if6 .left) (sequence .if5 .left) (condition .if2 .left) (action .if3 .left) (pair .if4 .left)
+    node-other _ _ (condition .before .before .if1 .left) (c .if7 .left) (sequence .if5 .left) (condition .if2 .left) (action .if3 .left) (pair .if4 .left)
+    (waiting .if6 .left)
 
 pub node-at-spec : {M : Type 1} → statement M
 node-at-spec =
@@ -64,6 +72,8 @@ node-at-spec =
     returns-4
     branch-at-requires
     returns-5
-    branch-at-requires-2
+    add-t11
     returns-6
-    returns-7)
+    branch-at-requires-2
+    returns-7
+    returns-8)
