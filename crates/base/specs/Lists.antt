@@ -8,7 +8,7 @@ use native.Mathlib.Numerals.{add-one}
 use native.Mathlib.Decide.{decLe}
 use native.Mathlib.Omega.{arith}
 use lib.ListN.{length, getD, drop, set, length-append, List·getD-append}
-use lib.Seq.{getD-at, getD-drop, getD-append-add, drop-cons, drop-at, set-at, set-getD}
+use lib.Seq.{ext-getD, getD-at, getD-drop, getD-append-add, drop-cons, drop-at, set-at, set-getD}
 
 map-snoc : {A B : Type 0} (h : A → B) (l : List A) (x : A) → map h (l ++ (x ∷ [])) ≡ map h l ++ (h x ∷ [])
 map-snoc h [] x = refl
@@ -38,6 +38,12 @@ module _ {A : Type 0} (f : ℕ → A) where
   pub map-prefix : {B : Type 0} (h : A → B) (n : ℕ) → map h (prefix f n) ≡ prefix (λ i. h (f i)) n
   map-prefix h zero = refl
   map-prefix h (suc n) = map-snoc h (prefix f n) (f n) ∙ ap (λ (l : List _). l ++ (h (f n) ∷ [])) (map-prefix h n)
+
+-- all elements of a list, one after the other
+pub prefix-all : {A : Type 0} (l : List A) (d : A) → prefix (λ i. getD l i d) (length l) ≡ l
+prefix-all l d =
+    ext-getD d (prefix (λ i. getD l i d) (length l)) l (length-prefix (λ i. getD l i d) (length l))
+    (λ i h. getD-prefix (λ i. getD l i d) (length l) i d (omega (arith, length-prefix (λ i. getD l i d) (length l))))
 
 -- what stands past the end does not matter inside
 pub getD-inside : {A : Type 0} (l : List A) (i : ℕ) (d e : A) → i < length l → getD l i d ≡ getD l i e

@@ -4,7 +4,8 @@ use Prim.Native.Nat.{ℕ, zero, suc, _+_, _<_}
 use native.Mathlib.Nat.{add-zero}
 use native.Mathlib.Decide.{decLe}
 use native.Mathlib.Omega.{arith}
-use mathlib.Core.Path.{_≡_, refl, ap, _∙_}
+use mathlib.Core.Path.{_≡_, refl, sym, ap, _∙_}
+use mathlib.Core.Logic.{_⊎_, inl, inr}
 use mathlib.Core.Bool.{Bool, true, false}
 use mathlib.Core.List.{List, [], _∷_, _++_}
 use lib.ListN.{length, getD}
@@ -66,6 +67,16 @@ module _ {A B : Type 0} (check : ℕ → A → Checked B) where
       let (z, told) = each-told (suc at) l zs others i d (omega arith) in
       let next : at + suc i ≡ suc at + i = omega arith in
       (z, ap (λ (k : ℕ). check k (getD l i d)) next ∙ told)
+
+  -- where they do not, the first does not, or those after it do not
+  pub refused-each : (at : ℕ) (x : A) (l : List A) (n p : ℕ) → checkedEach check at (x ∷ l) ≡ refused n p
+      → (check at x ≡ refused n p) ⊎ (checkedEach check (suc at) l ≡ refused n p)
+  refused-each at x l n p = by-checks (check at x) (checkedEach check (suc at) l)
+    where
+      by-checks : (c : Checked B) (d : Checked (List B)) → (andThen c λ y. andThen d λ ys. accepted (y ∷ ys)) ≡ refused n p → (c ≡ refused n p) ⊎ (d ≡ refused n p)
+      by-checks (accepted y) (accepted ys) e = absurd (not-both (sym e))
+      by-checks (accepted y) (refused m q) e = inr (cc)
+      by-checks (refused m q) d e = inl (cc)
 
   -- the first n values of a function: all pass, or the first that does not is told
   module _ (f : ℕ → A) (g : ℕ → B) where

@@ -44,6 +44,8 @@ pub enum Reason {
     JobTooLong,
     // A job needs a fact that it needs absent.
     NeedsContradict,
+    // The licences are not as many as the jobs, or one is none.
+    BadLicences,
 }
 
 pub struct Refusal {
@@ -76,5 +78,6 @@ pub fn number(reason: Reason) -> u8
         Reason::CardExhausted => 18,
         Reason::JobTooLong => 19,
         Reason::NeedsContradict => 22,
+        Reason::BadLicences => 24,
     }
 }

@@ -1,0 +1,2 @@
+pub mod Licences
+pub mod LicenceLaws
