@@ -17,7 +17,7 @@ use Rattle.tree.specs.declared.Status.{Status}
 use Rattle.tree.specs.declared.Status.the-variants.{Failure}
 use Rattle.tree.specs.Tick.{tickTree}
 use Rattle.tree.specs.TickBytes.{tickBytes, answered, isSettled, Settled}
-use Rattle.flat.specs.TreeBytes.{treeBytes, treeEntries}
+use Rattle.flat.specs.TreeBytes.{everyone, treeBytes, treeEntries}
 use Rattle.flat.specs.FlatTree.{treeOf}
 use Rattle.batch_walk.specs.Batch.{readingAt, readingsOf, AnswerRows, answering, entriesRead}
 use Rattle.batch_checks.specs.Checks.{checkedReadings, checkedList}
@@ -80,7 +80,7 @@ unfoldable pub batchUnder : Header → List (Entry Condition) → List Reading �
 batchUnder header l rs =
     andThen (checkedReadings (header .facts) rs) λ _.
     andThen (checkedList (header .paired) (header .facts) (header .jobs) l) λ _.
-    accepted (record { statuses = map (λ r. tickTree r (treeOf (header .paired) l) .answer) rs; read = entriesRead l rs })
+    accepted (record { statuses = map (λ r. tickTree r (treeOf everyone (header .paired) l) .answer) rs; read = entriesRead l rs })
 
 -- ---- what the call answers, and leaves in the lent rows
 

@@ -31,7 +31,7 @@ use Rattle.tree.specs.declared.Status.the-variants.{Failure}
 use Rattle.tree.specs.Tick.{tickTree}
 use Rattle.tree.specs.TickBytes.{tickBytes, answered}
 use Rattle.tree.specs.TickBytesLaws.{settled-bytes}
-use Rattle.flat.specs.TreeBytes.{treeEntries}
+use Rattle.flat.specs.TreeBytes.{everyone, treeEntries}
 use Rattle.flat.specs.FlatTree.{treeOf, Each, Fits}
 use Rattle.flat.specs.FlatTreeLaws.{each-by-place, later-by-place}
 use Rattle.flat.specs.ReadBackLaws.{tick-read}
@@ -161,7 +161,7 @@ module _ (table : List ℕ) (bytes : AreBytes table) (t : Table) (read : readTab
 
   -- the answer of vehicle v, by the tree
   abbrev status : ℕ → Status
-  status v = tickTree (vehicle v) (treeOf (x .paired) (x .list)) .answer
+  status v = tickTree (vehicle v) (treeOf everyone (x .paired) (x .list)) .answer
 
   first : Entry Condition
   first = entryAt conditions absences actions [] [] 0
@@ -192,8 +192,8 @@ module _ (table : List ℕ) (bytes : AreBytes table) (t : Table) (read : readTab
         let here : getD readings v (vehicle 0) ≡ vehicle v = getD-prefix vehicle n v (vehicle 0) h in
         checked-told (t .facts) (vehicle v) (0 + v) s (rw here at told) .0
 
-    tick-is : (v : ℕ) → v < n → tickBytes table tree (vehicle v) ≡ accepted (tickTree (vehicle v) (treeOf (x .paired) (x .list)))
-    tick-is v h = tick-read (x .paired) table t read (x .list) fits (vehicle v) (reading-sound v h)
+    tick-is : (v : ℕ) → v < n → tickBytes table tree (vehicle v) ≡ accepted (tickTree (vehicle v) (treeOf everyone (x .paired) (x .list)))
+    tick-is v h = tick-read everyone (x .paired) table t read (x .list) fits (vehicle v) (reading-sound v h)
 
     tick-answer : (v : ℕ) → v < n → answered (tickBytes table tree (vehicle v)) ≡ accepted (status v)
     tick-answer v h = ap answered (tick-is v h)
@@ -208,16 +208,16 @@ module _ (table : List ℕ) (bytes : AreBytes table) (t : Table) (read : readTab
 
     under-ticked : batchUnder (headerOf t) (x .list) readings ≡ accepted (record { statuses = prefix status n; read = entriesRead (x .list) readings })
     unfolding batchUnder
-    under-ticked = rw (r, c, map-prefix vehicle (λ r. tickTree r (treeOf (x .paired) (x .list)) .answer) n)
+    under-ticked = rw (r, c, map-prefix vehicle (λ r. tickTree r (treeOf everyone (x .paired) (x .list)) .answer) n)
 
     single-tick : (v : ℕ) → v < n → SingleTick table tree (vehicle v) (getD (prefix status n) v Failure)
     single-tick v h =
         subst (SingleTick table tree (vehicle v)) (sym (getD-prefix status n v Failure h)) (record {
           same = tick-answer v h;
           settled = λ u. record {
-            leaf = tickTree (vehicle v) (treeOf (x .paired) (x .list)) .leaf;
+            leaf = tickTree (vehicle v) (treeOf everyone (x .paired) (x .list)) .leaf;
             here = tick-is v h;
-            everywhere = settled-bytes table tree (vehicle v) (tickTree (vehicle v) (treeOf (x .paired) (x .list))) (tick-is v h) u;
+            everywhere = settled-bytes table tree (vehicle v) (tickTree (vehicle v) (treeOf everyone (x .paired) (x .list))) (tick-is v h) u;
           };
         })
 

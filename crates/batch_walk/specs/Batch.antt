@@ -14,6 +14,7 @@ use Rattle.planning.specs.Expansion.{Entry}
 use Rattle.tree.specs.declared.Status.{Status}
 use Rattle.tree.specs.Tick.{tickTree}
 use Rattle.tree.specs.StatusNumbers.{statusNumber, statusValue}
+use Rattle.flat.specs.TreeBytes.{everyone}
 use Rattle.flat.specs.FlatTree.{treeOf}
 
 -- ---- vehicles: "rows of held and unread masks"
@@ -59,6 +60,6 @@ entriesRead l (r ∷ rs) = max (readBy r l) (entriesRead l rs)
 
 pub record Walks (l : List (Entry Condition)) (rs : List Reading) (before after : AnswerRows) (read : ℕ) : Type 0 where
   -- "Each answer is what a single tick gives on the tree of that list", whether its conditions are written with one mask or with both
-  pub answers : (paired : Bool) → after ≡ answering (map (λ r. tickTree r (treeOf paired l) .answer) rs) before
+  pub answers : (paired : Bool) → after ≡ answering (map (λ r. tickTree r (treeOf everyone paired l) .answer) rs) before
   -- "The answer also counts the entries read, each at most once"
   pub count : read ≡ entriesRead l rs

@@ -22,7 +22,7 @@ use Rattle.conditions.specs.Condition.{conditionAt}
 use Rattle.conditions.specs.OnReading.{evaluated}
 use Rattle.conditions.specs.OnReadingLaws.{evaluated-present}
 use Rattle.tree.specs.declared.Status.{Status}
-use Rattle.tree.specs.declared.Status.the-variants.{Success, Failure, Running, Unsettled}
+use Rattle.tree.specs.declared.Status.the-variants.{Success, Failure, Running, Unsettled, Waiting}
 use Rattle.batch_walk.specs.declared.Numbered.{Numbered}
 use Rattle.batch_walk.specs.Batch.{readingAt, AnswerRows}
 use Rattle.batch_walk.specs.Steps.{numbered, numberedAt, setNumbered, overRows, metAt, isGoing, asked, isMissed, oneIf, stops, stepped, Asks, AsksAll, mayMeet, NextAsked, afterEntry, stopsAt, nextStatus, isFailure, answerAfter, WalkedRows, statusAfter, rowsAfter, goingAfter}
@@ -195,6 +195,7 @@ unfolding stepped
 status-stepped c r met Success = refl
 status-stepped c r met (Running job) = refl
 status-stepped c r met (Unsettled mask) = refl
+status-stepped c r met Waiting = refl
 status-stepped c r met Failure = by-condition (evaluated r c)
   where
     by-condition : (e : Evaluation) → asked (numbered met) (numbered Failure) e ≡ numbered (nextStatus met e Failure)
@@ -209,6 +210,7 @@ unfolding stops
 status-goes c r i job Success = refl
 status-goes c r i job (Running k) = refl
 status-goes c r i job (Unsettled mask) = refl
+status-goes c r i job Waiting = refl
 status-goes c r i job Failure = by-entry i (evaluated r c)
   where
     by-entry : (i : ℕ) (e : Evaluation) → 1 ≡ oneIf (not (isMissed e)) + oneIf (isFailure (nextStatus (metAt i job) e Failure))

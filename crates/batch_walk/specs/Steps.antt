@@ -16,7 +16,7 @@ use Rattle.conditions.specs.declared.Condition.{Condition}
 use Rattle.conditions.specs.Condition.{conditionAt}
 use Rattle.conditions.specs.OnReading.{evaluated}
 use Rattle.tree.specs.declared.Status.{Status}
-use Rattle.tree.specs.declared.Status.the-variants.{Success, Failure, Running, Unsettled}
+use Rattle.tree.specs.declared.Status.the-variants.{Success, Failure, Running, Unsettled, Waiting}
 use Rattle.tree.specs.StatusNumbers.{statusNumber, statusValue}
 use Rattle.batch_walk.specs.declared.Numbered.{Numbered}
 use Rattle.batch_walk.specs.Batch.{readingAt, AnswerRows, answerRows}
@@ -117,12 +117,14 @@ nextStatus met e Success = Success
 nextStatus met e Failure = entryStatus met e
 nextStatus met e (Running job) = Running job
 nextStatus met e (Unsettled mask) = Unsettled mask
+nextStatus met e Waiting = Waiting
 
 abbrev pub isFailure : Status → Bool
 isFailure Success = false
 isFailure Failure = true
 isFailure (Running job) = false
 isFailure (Unsettled mask) = false
+isFailure Waiting = false
 
 module _ (conditions absences actions : List ℕ) (r : Reading) where
   -- what the first n entries of a list answer: of none, Failure

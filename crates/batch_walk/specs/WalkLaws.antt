@@ -17,10 +17,10 @@ use Rattle.conditions.specs.OnReading.{evaluated}
 use Rattle.planning.specs.Expansion.{Entry}
 use Rattle.planning.specs.Columns.{entryAt}
 use Rattle.tree.specs.declared.Status.{Status}
-use Rattle.tree.specs.declared.Status.the-variants.{Success, Failure, Running, Unsettled}
+use Rattle.tree.specs.declared.Status.the-variants.{Success, Failure, Running, Unsettled, Waiting}
 use Rattle.tree.specs.Tick.{Verdict, tickTree}
 use Rattle.tree.specs.StatusNumbers.{statusNumber, statusValue}
-use Rattle.flat.specs.TreeBytes.{treeEntries}
+use Rattle.flat.specs.TreeBytes.{everyone, treeEntries}
 use Rattle.flat.specs.TreeBytesLaws.{entries-split, later-suc}
 use Rattle.flat.specs.FlatTree.{treeOf}
 use Rattle.flat.specs.FlatTick.{laterVerdict, listVerdict}
@@ -51,22 +51,22 @@ module _ (r : Reading) where
   abbrev listStatus : Entry Condition → List (Entry Condition) → Status
   listStatus x l = orElse Success (laterStatus l) (evaluated r (x .condition))
 
-  later-status : (paired : Bool) (l : List (Entry Condition)) (before at : ℕ) → laterVerdict paired r before l at .answer ≡ laterStatus l
+  later-status : (paired : Bool) (l : List (Entry Condition)) (before at : ℕ) → laterVerdict everyone paired r before l at .answer ≡ laterStatus l
   unfolding laterVerdict
   later-status paired [] before at = refl
   later-status paired (x ∷ l) before at = by-condition (evaluated r (x .condition)) refl (later-status paired l)
     where
-      by-condition : (v : Evaluation) → evaluated r (x .condition) ≡ v → ((before at : ℕ) → laterVerdict paired r before l at .answer ≡ laterStatus l)
-          → laterVerdict paired r before (x ∷ l) at .answer ≡ orElse (Running (x .action)) (laterStatus l) v
+      by-condition : (v : Evaluation) → evaluated r (x .condition) ≡ v → ((before at : ℕ) → laterVerdict everyone paired r before l at .answer ≡ laterStatus l)
+          → laterVerdict everyone paired r before (x ∷ l) at .answer ≡ orElse (Running (x .action)) (laterStatus l) v
       by-condition Met e rest = rw (e, laterVerdict)
       by-condition Missed e rest = rw (e, laterVerdict) (rest _ _)
       by-condition (Open m) e rest = rw (e, laterVerdict)
 
-  list-status : (paired : Bool) (x : Entry Condition) (l : List (Entry Condition)) → tickTree r (treeOf paired (x ∷ l)) .answer ≡ listStatus x l
+  list-status : (paired : Bool) (x : Entry Condition) (l : List (Entry Condition)) → tickTree r (treeOf everyone paired (x ∷ l)) .answer ≡ listStatus x l
   unfolding listVerdict
-  list-status paired x l = ap (λ (v : Verdict). v .answer) (tree-ticked paired r x l) ∙ by-condition (evaluated r (x .condition)) refl
+  list-status paired x l = ap (λ (v : Verdict). v .answer) (tree-ticked everyone paired r x l) ∙ by-condition (evaluated r (x .condition)) refl
     where
-      by-condition : (v : Evaluation) → evaluated r (x .condition) ≡ v → listVerdict paired r x l .answer ≡ orElse Success (laterStatus l) v
+      by-condition : (v : Evaluation) → evaluated r (x .condition) ≡ v → listVerdict everyone paired r x l .answer ≡ orElse Success (laterStatus l) v
       by-condition Met e = rw (e, listVerdict)
       by-condition Missed e = rw (e, listVerdict) (later-status paired l _ _)
       by-condition (Open m) e = rw (e, listVerdict)
@@ -96,6 +96,7 @@ next-failed : (i job : ℕ) (e : Evaluation) (a : Status) → isFailure (nextSta
 next-failed i job e Success h = absurd (false≢true h)
 next-failed i job e (Running k) h = absurd (false≢true h)
 next-failed i job e (Unsettled m) h = absurd (false≢true h)
+next-failed i job e Waiting h = absurd (false≢true h)
 next-failed zero job Met Failure h = absurd (false≢true h)
 next-failed (suc i) job Met Failure h = absurd (false≢true h)
 next-failed i job Missed Failure h = (refl, refl)
@@ -108,12 +109,14 @@ next-stopped i job Missed Failure f h = h
 next-stopped i job Missed Success f h = absurd (false≢true f)
 next-stopped i job Missed (Running k) f h = absurd (false≢true f)
 next-stopped i job Missed (Unsettled m) f h = absurd (false≢true f)
+next-stopped i job Missed Waiting f h = absurd (false≢true f)
 
 next-stays : (met : Status) (e : Evaluation) (a : Status) → isFailure a ≡ false → nextStatus met e a ≡ a
 next-stays met e Success h = refl
 next-stays met e Failure h = absurd (false≢true (sym h))
 next-stays met e (Running job) h = refl
 next-stays met e (Unsettled mask) h = refl
+next-stays met e Waiting h = refl
 
 some-one : (b : Bool) → 0 < oneIf b → b ≡ true
 some-one true h = refl
@@ -200,7 +203,7 @@ module _ (conditions absences actions : List ℕ) where
     after-listed (suc n) =
         ap (nextStatus (Running (getD actions (suc n) 0)) (evaluated r (conditionAt conditions absences (suc n)))) (after-listed n)
         ∙ sym (list-snoc r (entry (suc n)) (entry 0) (drop 1 (treeEntries conditions absences actions (suc n))))
-        ∙ ap (listStatus r (entry 0)) (sym (later-suc false conditions absences actions n))
+        ∙ ap (listStatus r (entry 0)) (sym (later-suc conditions absences actions n))
 
     -- a vehicle that stopped keeps its answer
     after-stays : (i n : ℕ) → i ≤ n → isFailure (answerAfter conditions absences actions r i) ≡ false
@@ -215,11 +218,11 @@ module _ (conditions absences actions : List ℕ) where
           | no k ↦ let last : i ≡ suc n = omega arith in ap (answerAfter conditions absences actions r) last
         ]
 
-    pub after-ticked : (paired : Bool) (n : ℕ) → 1 ≤ n → answerAfter conditions absences actions r n ≡ tickTree r (treeOf paired (treeEntries conditions absences actions n)) .answer
+    pub after-ticked : (paired : Bool) (n : ℕ) → 1 ≤ n → answerAfter conditions absences actions r n ≡ tickTree r (treeOf everyone paired (treeEntries conditions absences actions n)) .answer
     after-ticked paired zero h = absurd (omega arith)
     after-ticked paired (suc n) h =
         after-listed n ∙ sym (list-status r paired (entry 0) (drop 1 (treeEntries conditions absences actions (suc n))))
-        ∙ ap (λ (l : List (Entry Condition)). tickTree r (treeOf paired l) .answer) (sym (entries-split false conditions absences actions n))
+        ∙ ap (λ (l : List (Entry Condition)). tickTree r (treeOf everyone paired l) .answer) (sym (entries-split conditions absences actions n))
 
   -- ---- entries read
 
@@ -306,8 +309,8 @@ module _ (w : WalkedRows) (n vehicles : ℕ) where
           answers = λ paired.
               e ∙ answering-rows (λ v. answerAfter (w .conditions) (w .absences) (w .actions) (vehicle v) i) vehicles t
               ∙ ap (λ (l : List Status). answering l t)
-              (prefix-same _ (λ v. tickTree (vehicle v) (treeOf paired list) .answer) vehicles (λ v h. last v h ∙ after-ticked (w .conditions) (w .absences) (w .actions) (vehicle v) paired n some)
-              ∙ sym (map-prefix vehicle (λ r. tickTree r (treeOf paired list) .answer) vehicles));
+              (prefix-same _ (λ v. tickTree (vehicle v) (treeOf everyone paired list) .answer) vehicles (λ v h. last v h ∙ after-ticked (w .conditions) (w .absences) (w .actions) (vehicle v) paired n some)
+              ∙ sym (map-prefix vehicle (λ r. tickTree r (treeOf everyone paired list) .answer) vehicles));
           count = omega arith;
         }
 

@@ -1,14 +1,14 @@
 -- Plans, of whatever kind: the list of a table's goal and its tree, and what of them stands in every lent slice: document 01, "Expansion", stops 10
 -- to 12; document 02, W10.
 -- Definitions only.
-use Prim.Native.Nat.{ℕ}
+use Prim.Native.Nat.{ℕ, _≤_}
 use mathlib.Core.Path.{_≡_}
 use mathlib.Core.Bool.{Bool, false}
 use mathlib.Core.List.{List, [], _++_}
 use lib.Dec.{leb}
-use lib.ListN.{length, getD, drop}
+use lib.ListN.{length, getD, take, drop}
 use Rattle.base.specs.Bools.{if_then_else_}
-use Rattle.refusal.specs.Checked.{Checked, accepted, refused, refusedBy}
+use Rattle.refusal.specs.Checked.{Checked, accepted, refused, refusedBy, andThen}
 use Rattle.conditions.specs.declared.Condition.{Condition}
 use Rattle.conditions.specs.Condition.{plain}
 use Rattle.job.specs.declared.Job.{Job}
@@ -18,7 +18,7 @@ use Rattle.planning.specs.Domain.{Domain}
 use Rattle.planning.specs.Expansion.{Entry, Outcome, entries}
 use Rattle.planning.specs.Facts.{Actions, unitDomain, factPlan}
 use Rattle.expander.specs.declared.Until.{Until}
-use Rattle.expander.specs.Expands.{Columns, written, endedBy, listedBy}
+use Rattle.expander.specs.Expands.{Columns, columns, room, held, written, ifPaired, endedBy, listedBy}
 use Rattle.flat.specs.TreeBytes.{treeBytes}
 use Rattle.builder.specs.declared.Size.{Size}
 use Rattle.builder.specs.declared.Listed.{Listed}
@@ -41,6 +41,31 @@ tableDomain t = unitDomain (tableActions t) (plain (t .goal))
 -- "once the table has a 0x21": its conditions want facts absent, and its tree and list hold both masks
 abbrev pub pairs : Table → Bool
 pairs t = hasPair (t .jobs)
+
+-- ---- its list
+
+-- the expansion of a table's goal, up to what ends it, with room for so many entries, by whether the list is paired
+abbrev pub tableList : Until → Table → (Bool → ℕ) → Outcome Condition
+tableList until t capacity = factPlan (tableActions t) (plain (t .goal)) (capacity (pairs t)) (endedBy until)
+
+-- the list tables, as far as a list makes use of them: the further one only if it is paired
+abbrev pub used : (paired : Bool) → Columns → Columns
+used paired t =
+    columns (t .conditions) (take (ifPaired paired (length (t .absences))) (t .absences)) (t .actions) (t .parents) (t .depths)
+
+-- a list of n entries that stands in the tables
+pub record Stands (n : ℕ) (t : Columns) : Type 0 where
+  pub some : 1 ≤ n
+  pub few : n ≤ 4096
+  pub in-conditions : n ≤ length (t .conditions)
+  pub in-actions : n ≤ length (t .actions)
+
+-- The tables hold the entries stored, and the answer is how many, where the list ended as was asked; then what they hold is the list.
+pub record WritesList (until : Until) (t : Table) (before after : Columns) (told : Checked ℕ) : Type 0 where
+  pub tables : after ≡ written (pairs t) (entries (tableList until t (room before))) before
+  pub answer : told ≡ andThen (listedBy until (tableList until t (room before))) (λ l. accepted (length l))
+  pub list-stands : (n : ℕ) → told ≡ accepted n → Stands n after
+  pub list-held : (n : ℕ) → told ≡ accepted n → listedBy until (tableList until t (room before)) ≡ accepted (held (used (pairs t) after) n)
 
 -- ---- a plan: its answer, the entries that it stores, whether with both masks, and the bytes of the tree that it writes
 
@@ -79,7 +104,7 @@ module _ {Told : Type 0} where
 
   -- the plan of a table that was read, with room for so many entries, by whether the list is paired, and so many bytes of a tree
   unfoldable pub tablePlan : Until → Table → (Bool → ℕ) → ℕ → (List (Entry Condition) → Told) → Plan Told
-  tablePlan until t capacity room tell = planBy (pairs t) until room tell (factPlan (tableActions t) (plain (t .goal)) (capacity (pairs t)) (endedBy until))
+  tablePlan until t capacity room tell = planBy (pairs t) until room tell (tableList until t capacity)
 
   -- the checks before it first
   abbrev pub afterChecks : Checked Table → (Table → Plan Told) → Plan Told

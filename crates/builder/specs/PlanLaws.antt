@@ -18,18 +18,18 @@ use Rattle.conditions.specs.declared.Condition.{Condition}
 use Rattle.conditions.specs.Condition.{plain}
 use Rattle.table.specs.Table.{Table}
 use Rattle.planning.specs.Expansion.{Entry, Outcome, exhausted, covered, full, entries}
-use Rattle.planning.specs.Columns.{maxEntries, entryAt}
+use Rattle.planning.specs.Columns.{maxEntries, entryAt, entriesOf}
 use Rattle.planning.specs.Facts.{Actions, factPlan}
 use Rattle.expander.specs.declared.Expanded.{Expanded}
 use Rattle.expander.specs.declared.Expanded.the-variants as X
 use Rattle.expander.specs.declared.Until.{Until}
 use Rattle.expander.specs.declared.Until.the-variants as U
 use Rattle.expander.specs.Expands.{Columns, columns, capacityOf, Unlent, endedBy, over, written, room, held, planIn, expandedOf, listedBy, Expands, ifPaired}
-use Rattle.expander.specs.ExpandsLaws.{capacity-most, capacity-pairs, stored, list-held, list-length, held-length, stored-small, exhausted-some, covered-some, over-long}
-use Rattle.flat.specs.TreeBytes.{treeBytes, treeEntries}
+use Rattle.expander.specs.ExpandsLaws.{cut-paired, capacity-most, capacity-pairs, stored, list-held, list-length, held-length, stored-small, exhausted-some, covered-some, over-long}
+use Rattle.flat.specs.TreeBytes.{ownTree, everyone, treeBytes, treeEntries}
 use Rattle.flat.specs.FlatTreeLaws.{tree-columns}
 use Rattle.builder.specs.declared.Size.{Size}
-use Rattle.builder.specs.Plan.{tableActions, pairs, Plan, noPlan, listOnly, listAndTree, withTree, finishedBy, planBy, tablePlan, sizeOf, WritesTree, WritesPlan}
+use Rattle.builder.specs.Plan.{tableActions, pairs, tableList, used, Stands, WritesList, Plan, noPlan, listOnly, listAndTree, withTree, finishedBy, planBy, tablePlan, sizeOf, WritesTree, WritesPlan}
 
 -- ---- the tree of a list that stands in columns
 
@@ -70,6 +70,12 @@ listed-entries U.Never (exhausted m) l e = sym (accepted-same e)
 listed-entries (U.Covers start) (covered m) l e = sym (accepted-same e)
 listed-entries U.Never (covered m) l e = sym (accepted-same e)
 
+-- a list that covers a start was ended by a condition that the start meets
+pub covered-told : (start : ℕ) (o : Outcome Condition) (l : List (Entry Condition)) → listedBy (U.Covers start) o ≡ accepted l → o ≡ covered l
+covered-told start (full m) l e = absurd (not-both e)
+covered-told start (exhausted m) l e = absurd (not-both e)
+covered-told start (covered m) l e = ap covered (accepted-same e)
+
 refused-then : {A B : Type 0} (c : Checked A) (k : A → B) (n p : ℕ) → refused n p ≡ andThen c (λ a. accepted (k a)) → c ≡ refused n p
 refused-then (accepted a) k n p e = absurd (not-both e)
 refused-then (refused m q) k n p e = cc
@@ -77,7 +83,7 @@ refused-then (refused m q) k n p e = cc
 module _ {paired : Bool} {A : Actions} {goal : Condition} {until : Until} {before after : Columns} {x : Expanded} (E : Expands paired A goal until before after x) where
   -- the list ended as was asked
   module _ (n : ℕ) (e : expandedOf until x ≡ accepted n) where
-    pub ended-stored : stored x ≡ n
+    ended-stored : stored x ≡ n
     ended-stored = by-answer until x e
       where
         by-answer : (u : Until) (x : Expanded) → expandedOf u x ≡ accepted n → stored x ≡ n
@@ -87,12 +93,12 @@ module _ {paired : Bool} {A : Actions} {goal : Condition} {until : Until} {befor
         by-answer (U.Covers start) (X.Covered m) e = accepted-same e
         by-answer U.Never (X.Covered m) e = accepted-same e
 
-    pub ended-listed : listedBy until (planIn paired before A goal until) ≡ accepted (held after n)
+    ended-listed : listedBy until (planIn paired before A goal until) ≡ accepted (held after n)
     ended-listed =
         let w = accepted-then (listedBy until (planIn paired before A goal until)) (λ l. accepted (length l)) n (sym (E .answer) ∙ e) in
         w .1 ∙ ap accepted (listed-entries until (planIn paired before A goal until) (w .0) (w .1) ∙ sym (list-held E) ∙ ap (held after) ended-stored)
 
-    pub ended-some : 1 ≤ n
+    ended-some : 1 ≤ n
     ended-some = by-answer until x E e
       where
         by-answer : (u : Until) (x : Expanded) → Expands paired A goal u before after x → expandedOf u x ≡ accepted n → 1 ≤ n
@@ -102,7 +108,7 @@ module _ {paired : Bool} {A : Actions} {goal : Condition} {until : Until} {befor
         by-answer (U.Covers start) (X.Covered m) E e = omega (arith, covered-some E, accepted-same e)
         by-answer U.Never (X.Covered m) E e = omega (arith, covered-some E, accepted-same e)
 
-  pub refused-listed : (n p : ℕ) → expandedOf until x ≡ refused n p → listedBy until (planIn paired before A goal until) ≡ refused n p
+  refused-listed : (n p : ℕ) → expandedOf until x ≡ refused n p → listedBy until (planIn paired before A goal until) ≡ refused n p
   refused-listed n p e = refused-then (listedBy until (planIn paired before A goal until)) length n p (sym e ∙ E .answer)
 
   -- ---- the columns are long enough for it
@@ -110,21 +116,14 @@ module _ {paired : Bool} {A : Actions} {goal : Condition} {until : Until} {befor
   stands : (field : Entry Condition → ℕ) (xs ys : List ℕ) → xs ≡ over field (entries (planIn paired before A goal until)) ys → stored x ≤ length xs
   stands field xs ys e = omega (arith, ap length e, over-long (entries (planIn paired before A goal until)) field ys, list-length E)
 
-  pub record Stands (n : ℕ) (t : Columns) : Type 0 where
-    pub few : n ≤ 4096
-    pub in-conditions : n ≤ length (t .conditions)
-    pub in-actions : n ≤ length (t .actions)
-    pub in-parents : n ≤ length (t .parents)
-    pub in-depths : n ≤ length (t .depths)
-
-  pub list-stands : Stands (stored x) after
-  list-stands =
+  ended-stands : (n : ℕ) → expandedOf until x ≡ accepted n → Stands n after
+  ended-stands n e =
+      let same = ended-stored n e in
       record {
-        few = stored-small E;
-        in-conditions = stands (λ x. x .condition .present) _ _ (ap (λ (t : Columns). t .conditions) (E .tables));
-        in-actions = stands (λ x. x .action) _ _ (ap (λ (t : Columns). t .actions) (E .tables));
-        in-parents = stands (λ x. x .parent) _ _ (ap (λ (t : Columns). t .parents) (E .tables));
-        in-depths = stands (λ x. x .depth) _ _ (ap (λ (t : Columns). t .depths) (E .tables));
+        some = ended-some n e;
+        few = omega (arith, stored-small E, same);
+        in-conditions = omega (arith, stands (λ x. x .condition .present) _ _ (ap (λ (t : Columns). t .conditions) (E .tables)), same);
+        in-actions = omega (arith, stands (λ x. x .action) _ _ (ap (λ (t : Columns). t .actions) (E .tables)), same);
       }
 
 -- ---- the plan of a table
@@ -147,64 +146,76 @@ module _ {Told : Type 0} (paired : Bool) (tell : List (Entry Condition) → Told
     pub plan-paired : planBy paired until room tell o .paired ≡ paired
     plan-paired = finished-list room (entries o) (listedBy until o) (listed-entries until o) .1
 
-module _ {Told : Type 0} (t : Table) (until : Until) (before after : Columns) (x : Expanded)
-    (E : Expands (pairs t) (tableActions t) (plain (t .goal)) until before after x)
+module _ {t : Table} {until : Until} {before after : Columns} {ended : Checked ℕ} (L : WritesList until t before after ended) where
+  -- a list that did not end as was asked
+  pub list-refused : (n p : ℕ) → ended ≡ refused n p → listedBy until (tableList until t (room before)) ≡ refused n p
+  list-refused n p e = refused-then (listedBy until (tableList until t (room before))) length n p (sym e ∙ L .answer)
+
+module _ {Told : Type 0} {t : Table} {until : Until} {before after : Columns} {ended : Checked ℕ} (L : WritesList until t before after ended)
     (tell : List (Entry Condition) → Told) (lent : List ℕ) (told : Checked Told) where
   abbrev plan : Plan Told
   plan = tablePlan until t (room before) (length lent) tell
 
   abbrev outcome : Outcome Condition
-  outcome = planIn (pairs t) before (tableActions t) (plain (t .goal)) until
+  outcome = tableList until t (room before)
 
   tables-are : after ≡ written (plan .paired) (plan .list) before
   unfolding tablePlan
-  tables-are = E .tables ∙ rw (plan-list (pairs t) tell until (length lent) outcome, plan-paired (pairs t) tell until (length lent) outcome)
+  tables-are = L .tables ∙ rw (plan-list (pairs t) tell until (length lent) outcome, plan-paired (pairs t) tell until (length lent) outcome)
 
   -- 10 or 11: no tree is written
-  pub writes-list : (n p : ℕ) → expandedOf until x ≡ refused n p → told ≡ refused n p → WritesPlan plan before after lent lent told
+  pub writes-list : (n p : ℕ) → ended ≡ refused n p → told ≡ refused n p → WritesPlan plan before after lent lent told
   unfolding tablePlan
   writes-list n p e a =
       record { tables = tables-are; answer-and-tree = rw here (record { answer = a; tree-written = refl }) }
     where
       here : plan ≡ listOnly (pairs t) n p (entries outcome)
-      here = ap (finishedBy (pairs t) (length lent) tell (entries outcome)) (refused-listed E n p e)
+      here = ap (finishedBy (pairs t) (length lent) tell (entries outcome)) (list-refused L n p e)
 
-  writes-tree : (n : ℕ) → expandedOf until x ≡ accepted n → (tree : List ℕ)
-      → WritesTree (withTree (pairs t) (length lent) (tell (held after n)) (held after n)) lent tree told → WritesPlan plan before after lent tree told
+  writes-tree : (n : ℕ) → ended ≡ accepted n → (tree : List ℕ)
+      → WritesTree (withTree (pairs t) (length lent) (tell (held (used (pairs t) after) n)) (held (used (pairs t) after) n)) lent tree told
+      → WritesPlan plan before after lent tree told
   unfolding tablePlan
   writes-tree n e tree W = record { tables = tables-are; answer-and-tree = rw here W }
     where
-      here : plan ≡ withTree (pairs t) (length lent) (tell (held after n)) (held after n)
-      here = ap (finishedBy (pairs t) (length lent) tell (entries outcome)) (ended-listed E n e)
+      here : plan ≡ withTree (pairs t) (length lent) (tell (held (used (pairs t) after) n)) (held (used (pairs t) after) n)
+      here = ap (finishedBy (pairs t) (length lent) tell (entries outcome)) (L .list-held n e)
 
 -- the entries as far as a tree shows them
 abbrev pub drawn : Columns → ℕ → List (Entry Condition)
 drawn t n = treeEntries (t .conditions) (t .absences) (t .actions) n
 
--- the tree of the columns' conditions and actions is that of the list
+-- they are as many as those of the list, and have the same tree, whose ever
+pub drawn-length : (paired : Bool) (t : Columns) (n : ℕ) → length (drawn t n) ≡ length (held (used paired t) n)
+drawn-length paired t n = length-prefix (entryAt (t .conditions) (t .absences) (t .actions) [] []) n ∙ sym (held-length (used paired t) n)
+
+pub drawn-tree : (mine : ℕ → Bool) (paired : Bool) (t : Columns) (n : ℕ) → ownTree mine paired (drawn t n) ≡ ownTree mine paired (held (used paired t) n)
+drawn-tree mine paired t n =
+    tree-columns mine paired (t .conditions) (t .absences) (t .actions) (t .parents) (t .depths) n
+    ∙ ap (λ (xs : List ℕ). ownTree mine paired (entriesOf (t .conditions) xs (t .actions) (t .parents) (t .depths) n)) (sym (cut-paired paired (t .absences)))
+
 tree-held : (paired : Bool) (after : Columns) (n : ℕ) (lent tree : List ℕ) (told : Checked Size)
     → WritesTree (withTree paired (length lent) (sizeOf paired (drawn after n)) (drawn after n)) lent tree told
-    → WritesTree (withTree paired (length lent) (sizeOf paired (held after n)) (held after n)) lent tree told
+    → WritesTree (withTree paired (length lent) (sizeOf paired (held (used paired after) n)) (held (used paired after) n)) lent tree told
 tree-held paired after n lent tree told W =
     let shown = drawn after n in
-    let sizes : length shown ≡ length (held after n) = length-prefix (entryAt (after .conditions) (after .absences) (after .actions) [] []) n ∙ sym (held-length after n) in
-    let trees : treeBytes paired shown ≡ treeBytes paired (held after n) =
-    sym (tree-columns paired (after .conditions) (after .absences) (after .actions) (after .parents) (after .depths) n) in
-    subst (WritesTree (withTree paired (length lent) (sizeOf paired (held after n)) (held after n)) lent tree) (as-told told)
-    (retold paired (length lent) shown (held after n) sizes trees (sizeOf paired shown) (sizeOf paired (held after n)) (λ x. x) (rw (sizes, trees)) lent tree told W)
+    let list = held (used paired after) n in
+    let sizes = drawn-length paired after n in
+    let trees = drawn-tree everyone paired after n in
+    subst (WritesTree (withTree paired (length lent) (sizeOf paired list) list) lent tree) (as-told told)
+    (retold paired (length lent) shown list sizes trees (sizeOf paired shown) (sizeOf paired list) (λ x. x) (rw (sizes, trees)) lent tree told W)
   where
     as-told : (c : Checked Size) → andThen c (λ x. accepted x) ≡ c
     as-told (accepted s) = refl
     as-told (refused n p) = refl
 
 -- the list ended as was asked, and the tree of its columns is written where it fits
-pub writes-built : (t : Table) (until : Until) (before after : Columns) (x : Expanded)
-    (E : Expands (pairs t) (tableActions t) (plain (t .goal)) until before after x)
-    (lent : List ℕ) (told : Checked Size) (n : ℕ) → expandedOf until x ≡ accepted n → (tree : List ℕ)
+pub writes-built : {t : Table} {until : Until} {before after : Columns} {ended : Checked ℕ} (L : WritesList until t before after ended)
+    (lent : List ℕ) (told : Checked Size) (n : ℕ) → ended ≡ accepted n → (tree : List ℕ)
     → WritesTree (withTree (pairs t) (length lent) (sizeOf (pairs t) (drawn after n)) (drawn after n)) lent tree told
     → WritesPlan (tablePlan until t (room before) (length lent) (sizeOf (pairs t))) before after lent tree told
-writes-built t until before after x E lent told n e tree W =
-    writes-tree t until before after x E (sizeOf (pairs t)) lent told n e tree (tree-held (pairs t) after n lent tree told W)
+writes-built {t} {after = after} L lent told n e tree W =
+    writes-tree L (sizeOf (pairs t)) lent told n e tree (tree-held (pairs t) after n lent tree told W)
 
 -- ---- what the answer of a plan tells
 
@@ -296,65 +307,67 @@ pub columns-few : (before : Columns) (paired : Bool) → room before paired ≤ 
 columns-few t true = capacity-pairs (length (t .conditions)) (length (t .absences)) (length (t .actions)) (length (t .parents)) (length (t .depths)) true tt
 columns-few t false = capacity-most (length (t .conditions)) (length (t .absences)) (length (t .actions)) (length (t .parents)) (length (t .depths)) false
 
--- ---- a plan in tables of which the further one is lent as far as the list needs it
+-- ---- a list in tables of which the further one is lent as far as the list needs it
 
 -- a list that is not paired is lent none of it
-pub cut-unlent : (paired : Bool) (used : ℕ) (absences : List ℕ) → used ≡ ifPaired paired (length absences) → Unlent paired (take used absences)
-cut-unlent true used absences e t = absurd t
-cut-unlent false used absences e t = rw e
+pub cut-unlent : (paired : Bool) (n : ℕ) (absences : List ℕ) → n ≡ ifPaired paired (length absences) → Unlent paired (take n absences)
+cut-unlent true n absences e t = absurd t
+cut-unlent false n absences e t = rw e
 
-module _ (conditions absences actions parents depths : List ℕ) where
-  abbrev whole : Columns
-  whole = columns conditions absences actions parents depths
+room-used : (paired : Bool) (t : Columns) → room (used paired t) paired ≡ room t paired
+unfolding capacityOf
+room-used true t = rw take-length
+room-used false t = refl
 
-  abbrev cut : Bool → Columns
-  cut paired = columns conditions (take (ifPaired paired (length absences)) absences) actions parents depths
+-- what is not lent stays as it is
+module _ (before : Columns) (conditions absences actions parents depths lent : List ℕ) where
+  abbrev after : Columns
+  after = columns conditions absences actions parents depths
 
-  room-cut : (paired : Bool) → room (cut paired) paired ≡ room whole paired
-  unfolding capacityOf
-  room-cut true = rw take-length
-  room-cut false = refl
+  abbrev cut : Columns
+  cut = columns conditions lent actions parents depths
 
-  plan-cut : {Told : Type 0} (until : Until) (t : Table) (space : ℕ) (tell : List (Entry Condition) → Told)
-      → tablePlan until t (room (cut (pairs t))) space tell ≡ tablePlan until t (room whole) space tell
-  unfolding tablePlan
-  plan-cut until t space tell = ap (λ (n : ℕ). planBy (pairs t) until space tell (factPlan (tableActions t) (plain (t .goal)) n (endedBy until))) (room-cut (pairs t))
+  -- the further table, which was lent so far and is whole again
+  abbrev Rest : Bool → Type 0
+  Rest paired = absences ≡ lent ++ drop (ifPaired paired (length (before .absences))) (before .absences)
 
-  -- what is not lent stays as it is
-  module _ {Told : Type 0} (P : Plan Told) (after lent tree : List ℕ) (told : Checked Told) (conditions′ absences′ actions′ parents′ depths′ : List ℕ) where
-    writes-cut : (paired : Bool) → P .paired ≡ paired → WritesPlan P (cut paired) (columns conditions′ after actions′ parents′ depths′) lent tree told
-        → absences′ ≡ after ++ drop (ifPaired paired (length absences)) absences
-        → WritesPlan P whole (columns conditions′ absences′ actions′ parents′ depths′) lent tree told
-    writes-cut true e W q =
-        let none : drop (length absences) absences ≡ [] = drop-of-length-le absences {i = length absences} (omega arith) in
-        let same : absences′ ≡ after = q ∙ rw (none, append-nil) in
-        record {
-          tables = ap (λ (xs : List ℕ). columns conditions′ xs actions′ parents′ depths′) same ∙ W .tables
-              ∙ ap (λ (xs : List ℕ). written (P .paired) (P .list) (columns conditions xs actions parents depths)) (take-length absences);
-          answer-and-tree = W .answer-and-tree;
-        }
-    writes-cut false e W q =
-        let w = rw e at (W .tables) in
-        let kept : absences′ ≡ absences = q ∙ ap (λ (xs : List ℕ). xs ++ absences) (ap (λ (t : Columns). t .absences) w) in
-        record {
-          tables = rw e (λ i. columns (w i .conditions) (kept i) (w i .actions) (w i .parents) (w i .depths));
-          answer-and-tree = W .answer-and-tree;
-        }
+  tables-used : (paired : Bool) (l : List (Entry Condition)) → cut ≡ written paired l (used paired before) → Rest paired → after ≡ written paired l before
+  tables-used true l w q =
+      ap (λ (xs : List ℕ). columns conditions xs actions parents depths) (q ∙ all-lent) ∙ w
+      ∙ ap (λ (xs : List ℕ). written true l (columns (before .conditions) xs (before .actions) (before .parents) (before .depths))) (take-length (before .absences))
+    where
+      all-lent : lent ++ drop (length (before .absences)) (before .absences) ≡ lent
+      all-lent = rw (drop-of-length-le (before .absences) {i = length (before .absences)} (omega arith), append-nil)
+  tables-used false l w q =
+      let kept : absences ≡ before .absences = q ∙ ap (λ (xs : List ℕ). xs ++ before .absences) (ap (λ (t : Columns). t .absences) w) in
+      λ i. columns (w i .conditions) (kept i) (w i .actions) (w i .parents) (w i .depths)
 
-  module _ {Told : Type 0} (until : Until) (t : Table) (tell : List (Entry Condition) → Told) (after lent tree : List ℕ) (told : Checked Told)
-      (conditions′ absences′ actions′ parents′ depths′ : List ℕ) where
-    abbrev planned : Columns → Plan Told
-    planned lists = tablePlan until t (room lists) (length lent) tell
+  cut-used : (paired : Bool) (l : List (Entry Condition)) → cut ≡ written paired l (used paired before) → Rest paired → cut ≡ used paired after
+  cut-used true l w q =
+      ap (λ (xs : List ℕ). columns conditions xs actions parents depths) (sym (q ∙ all-lent) ∙ sym (take-length absences))
+    where
+      all-lent : lent ++ drop (length (before .absences)) (before .absences) ≡ lent
+      all-lent = rw (drop-of-length-le (before .absences) {i = length (before .absences)} (omega arith), append-nil)
+  cut-used false l w q = ap (λ (xs : List ℕ). columns conditions xs actions parents depths) (ap (λ (t : Columns). t .absences) w)
 
-    its-paired : planned whole .paired ≡ pairs t
-    unfolding tablePlan
-    its-paired = plan-paired (pairs t) tell until (length lent) (planIn (pairs t) whole (tableActions t) (plain (t .goal)) until)
+  pub writes-lent : (t : Table) (until : Until) (x : Expanded) (ended : Checked ℕ) (n : ℕ) → n ≡ ifPaired (pairs t) (length (before .absences))
+      → (let lists = columns (before .conditions) (take n (before .absences)) (before .actions) (before .parents) (before .depths) in
+      Expands (pairs t) (tableActions t) (plain (t .goal)) until lists cut x)
+      → ended ≡ expandedOf until x → absences ≡ lent ++ drop n (before .absences) → WritesList until t before after ended
+  writes-lent t until x ended n u E₀ a q₀ =
+      record {
+        tables = tables-used (pairs t) (entries (tableList until t (room before))) (E .tables ∙ ap (λ (o : Outcome Condition). written (pairs t) (entries o) (used (pairs t) before)) same) q;
+        answer = a ∙ E .answer ∙ ap (λ (o : Outcome Condition). andThen (listedBy until o) (λ l. accepted (length l))) same;
+        list-stands = λ k e. let S = ended-stands E k (sym a ∙ e) in record { some = S .some; few = S .few; in-conditions = S .in-conditions; in-actions = S .in-actions };
+        list-held = λ k e.
+            ap (listedBy until) (sym same) ∙ ended-listed E k (sym a ∙ e) ∙ ap (λ (t : Columns). accepted (held t k)) (cut-used (pairs t) (entries (planIn (pairs t) (used (pairs t) before) (tableActions t) (plain (t .goal)) until)) (E .tables) q);
+      }
+    where
+      E : Expands (pairs t) (tableActions t) (plain (t .goal)) until (used (pairs t) before) cut x
+      E = rw u at E₀
 
-    pub writes-lent : (used : ℕ) → used ≡ ifPaired (pairs t) (length absences)
-        → (let lists = columns conditions (take used absences) actions parents depths in
-        WritesPlan (planned lists) lists (columns conditions′ after actions′ parents′ depths′) lent tree told)
-        → absences′ ≡ after ++ drop used absences → WritesPlan (planned whole) whole (columns conditions′ absences′ actions′ parents′ depths′) lent tree told
-    writes-lent used u W q =
-        writes-cut (planned whole) after lent tree told conditions′ absences′ actions′ parents′ depths′ (pairs t) its-paired
-        (subst (λ (P : Plan Told). WritesPlan P (cut (pairs t)) (columns conditions′ after actions′ parents′ depths′) lent tree told)
-        (plan-cut until t (length lent) tell) (rw u at W)) (rw u at q)
+      q : Rest (pairs t)
+      q = rw u at q₀
+
+      same : planIn (pairs t) (used (pairs t) before) (tableActions t) (plain (t .goal)) until ≡ tableList until t (room before)
+      same = ap (λ (k : ℕ). factPlan (tableActions t) (plain (t .goal)) k (endedBy until)) (room-used (pairs t) before)

@@ -28,6 +28,7 @@ use Rattle.table.specs.Table.{Table}
 use Rattle.table.specs.Read.{readTable}
 use Rattle.table.specs.RoundTripLaws.{read-sound}
 use Rattle.planning.specs.Domain.{Domain}
+use Rattle.planning.specs.Sequence.{Answer}
 use Rattle.planning.specs.Columns.{maxEntries}
 use Rattle.planning.specs.Listing.{Good}
 use Rattle.planning.specs.Expansion.{Entry, Outcome, exhausted, covered, full, entries, root, entryIn, listing}
@@ -39,48 +40,56 @@ use Rattle.tree.specs.declared.Status.the-variants.{Failure, Running, Unsettled
 use Rattle.tree.specs.Tick.{tickTree}
 use Rattle.tree.specs.TickBytes.{tickBytes, answered}
 use Rattle.runs.specs.Runs.{answerOfStatus, runAnswer, tickOn}
-use Rattle.flat.specs.TreeBytes.{treeBytes}
+use Rattle.flat.specs.TreeBytes.{ownTree, everyone, treeBytes}
+use Rattle.flat.specs.FlatTick.{seenBy}
 use Rattle.flat.specs.FlatTree.{Each, Fits, treeOf}
 use Rattle.flat.specs.FlatTreeLaws.{each-by-place, later-by-place}
 use Rattle.flat.specs.ReadBackLaws.{tick-read}
-use Rattle.flat.specs.FlatTickLaws.{tick-agrees, unsettled-differ, action-named, failure-iff}
+use Rattle.flat.specs.FlatTickLaws.{tick-agrees, unsettled-differ, action-named, failure-iff, tick-seen}
 use Rattle.expander.specs.declared.Until.{Until}
 use Rattle.expander.specs.declared.Until.the-variants as U
 use Rattle.expander.specs.Expands.{endedBy, listedBy}
 use Rattle.builder.specs.Plan.{jobOf, tableActions, tableDomain, pairs, planBy}
 use Rattle.builder.specs.PlanLaws.{listed-entries, plan-list, refused-told}
 use Rattle.builder.specs.RowLaws.{no-absent}
-use Rattle.builder.specs.Works.{Ticks, FewestJobs, Irredundant, NoRoom}
+use Rattle.builder.specs.Works.{Ticks, Works, FewestJobs, Irredundant, NoRoom}
 
 -- ---- the tick of a list's tree, where the list has at least an entry
 
-module _ (paired : Bool) (A : Actions) (goal : Condition) where
+module _ (mine : ℕ → Bool) (paired : Bool) (A : Actions) (goal : Condition) where
   abbrev F : Domain ℕ Condition ℕ
   F = unitDomain A goal
 
-  list-agrees : (l : List (Entry Condition)) (s : ℕ) → 1 ≤ length l → answerOfStatus (tickTree (state s) (treeOf paired l) .answer) ≡ tickList F l s
-  list-agrees [] s h = absurd (omega arith)
-  list-agrees (x ∷ l) s h = tick-agrees paired F (λ s c. refl) s x l
-
   -- the job that is named is that of a later entry, whose condition is read and held
-  list-named : (l : List (Entry Condition)) (r : Reading) (job : ℕ) → 1 ≤ length l → tickTree r (treeOf paired l) .answer ≡ Running job
+  list-named : (l : List (Entry Condition)) (r : Reading) (job : ℕ) → 1 ≤ length l → tickTree r (treeOf mine paired l) .answer ≡ Running job
       → (i : ℕ) × (suc i < length l) × (entryIn F l (suc i) .action ≡ job) × Confirmed r (entryIn F l (suc i) .condition)
   list-named [] r job h e = absurd (omega arith)
   list-named (x ∷ l) r job h e =
-      let n = action-named paired (root F) r x l job e in
+      let n = action-named mine paired (root F) r x l job e in
       (n .at, omega (arith, n .inside), n .is-action, n .confirmed)
 
-  list-fails : (l : List (Entry Condition)) (s : ℕ) → 1 ≤ length l → (tickTree (state s) (treeOf paired l) .answer ≡ Failure) ↔ (CoveredBy F l s → ⊥)
+  list-fails : (l : List (Entry Condition)) (s : ℕ) → 1 ≤ length l → (tickTree (state s) (treeOf mine paired l) .answer ≡ Failure) ↔ (CoveredBy F l s → ⊥)
   list-fails [] s h = absurd (omega arith)
   list-fails (x ∷ l) s h =
-      let f = failure-iff paired (root F) s x l in
+      let f = failure-iff mine paired (root F) s x l in
       ((λ e c. f .0 e (c .at) (c .inside) (c .met)), (λ n. f .1 (λ i k m. n (record { at = i; inside = k; met = m }))))
 
-list-differ : (paired : Bool) (l : List (Entry Condition)) (r : Reading) (m : ℕ) → T (not (intersects (r .held) (r .unread)))
-    → Each (λ x. T (consistent (x .condition))) l → 1 ≤ length l → tickTree r (treeOf paired l) .answer ≡ Unsettled m
-    → (s u : ℕ) × Completes r s × Completes r u × (tickTree (state s) (treeOf paired l) ≡ tickTree (state u) (treeOf paired l) → ⊥)
-list-differ paired [] r m d one-way h e = absurd (omega arith)
-list-differ paired (x ∷ l) r m d one-way h e = unsettled-differ paired r d x l m one-way e
+list-differ : (mine : ℕ → Bool) (paired : Bool) (l : List (Entry Condition)) (r : Reading) (m : ℕ) → T (not (intersects (r .held) (r .unread)))
+    → Each (λ x. T (consistent (x .condition))) l → 1 ≤ length l → tickTree r (treeOf mine paired l) .answer ≡ Unsettled m
+    → (s u : ℕ) × Completes r s × Completes r u × (tickTree (state s) (treeOf mine paired l) ≡ tickTree (state u) (treeOf mine paired l) → ⊥)
+list-differ mine paired [] r m d one-way h e = absurd (omega arith)
+list-differ mine paired (x ∷ l) r m d one-way h e = unsettled-differ mine paired r d x l m one-way e
+
+-- with all jobs it answers as the list does, and one who has some of them sees what is his
+list-agrees : (paired : Bool) (A : Actions) (goal : Condition) (l : List (Entry Condition)) (s : ℕ) → 1 ≤ length l
+    → answerOfStatus (tickTree (state s) (treeOf everyone paired l) .answer) ≡ tickList (unitDomain A goal) l s
+list-agrees paired A goal [] s h = absurd (omega arith)
+list-agrees paired A goal (x ∷ l) s h = tick-agrees paired (unitDomain A goal) (λ s c. refl) s x l
+
+list-seen : (mine : ℕ → Bool) (paired : Bool) (l : List (Entry Condition)) (r : Reading) → 1 ≤ length l
+    → tickTree r (treeOf mine paired l) .answer ≡ seenBy mine (tickTree r (treeOf everyone paired l) .answer)
+list-seen mine paired [] r h = absurd (omega arith)
+list-seen mine paired (x ∷ l) r h = tick-seen mine paired r x l
 
 -- ---- a table that was read, whatever ends its list
 
@@ -126,6 +135,10 @@ module _ (table : List ℕ) (b : AreBytes table) (t : Table) (e : readTable tabl
     good : Good D (listing D l) (length l)
     good = of-list (λ l. 0 < length l → Good D (listing D l) (length l)) (planned-good (fact-plannable A goal) capacity (endedBy until)) some
 
+    -- the goal is entry 0's condition
+    pub goal-covered : (s : ℕ) → T (D .satisfies s (D .goal)) → CoveredBy D l s
+    goal-covered s h = record { at = 0; inside = some; met = subst (λ (c : Condition). T (D .satisfies s c)) (sym (good .goal-first)) h }
+
     known : (i : ℕ) → 0 < i → i < length l → entryIn D l i .action < length (t .jobs)
     known = of-list (λ l. (i : ℕ) → 0 < i → i < length l → entryIn D l i .action < length (t .jobs)) (planned-action (fact-plannable A goal) capacity (endedBy until))
 
@@ -150,57 +163,73 @@ module _ (table : List ℕ) (b : AreBytes table) (t : Table) (e : readTable tabl
         facts-few : t .facts ≤ 64
         facts-few = leb→le (t .facts) 64 (and-right (leb 1 (t .facts)) _ (holds _ (read-sound table b t e .facts-in-range)))
 
-    tick-is : (r : Reading) → sound (t .facts) r ≡ true → tickBytes table (treeBytes paired l) r ≡ accepted (tickTree r (treeOf paired l))
-    tick-is = tick-read paired table t e l fits
+    -- demand 3, of ticks that answer as the list does
+    pub list-fewest : (tick : ℕ → Answer ℕ) → ((s : ℕ) → T (within (t .facts) s) → tick s ≡ tickList D l s)
+        → (s : ℕ) → T (within (t .facts) s) → CoveredBy D l s → Fewest D tick l s
+    list-fewest tick =
+        of-list (λ m. ((s : ℕ) → T (within (t .facts) s) → tick s ≡ tickList D m s) → (s : ℕ) → T (within (t .facts) s) → CoveredBy D m s → Fewest D tick m s)
+        (fact-fewest-by A goal capacity (endedBy until) (t .facts) within-facts separate tick)
 
-    state-tick : (s : ℕ) → T (within (t .facts) s) → tickBytes table (treeBytes paired l) (state s) ≡ accepted (tickTree (state s) (treeOf paired l))
-    state-tick s w = tick-is (state s) (is-true _ (state-sound (t .facts) s w))
+    -- the tree of one who has all jobs, or some
+    module _ (mine : ℕ → Bool) where
+      abbrev tree : List ℕ
+      tree = ownTree mine paired l
 
-    -- demand 3
-    run-fewest : (s : ℕ) → T (within (t .facts) s) → CoveredBy D l s → Fewest D (tickOn table (treeBytes paired l)) l s
-    run-fewest =
-        of-list (λ m. ((s : ℕ) → T (within (t .facts) s) → tickOn table (treeBytes paired l) s ≡ tickList D m s)
-        → (s : ℕ) → T (within (t .facts) s) → CoveredBy D m s → Fewest D (tickOn table (treeBytes paired l)) m s)
-        (fact-fewest-by A goal capacity (endedBy until) (t .facts) within-facts separate (tickOn table (treeBytes paired l)))
-        (λ s w. ap runAnswer (state-tick s w) ∙ list-agrees paired A goal l s some)
+      tick-is : (r : Reading) → sound (t .facts) r ≡ true → tickBytes table tree r ≡ accepted (tickTree r (treeOf mine paired l))
+      tick-is = tick-read mine paired table t e l fits
 
-    module _ (r : Reading) (sounds : sound (t .facts) r ≡ true) where
-      apart : T (not (intersects (r .held) (r .unread)))
-      apart = sound-apart (t .facts) r (holds _ sounds)
+      state-tick : (s : ℕ) → T (within (t .facts) s) → tickBytes table tree (state s) ≡ accepted (tickTree (state s) (treeOf mine paired l))
+      state-tick s w = tick-is (state s) (is-true _ (state-sound (t .facts) s w))
 
-      needs-met : (job : ℕ) → tickTree r (treeOf paired l) .answer ≡ Running job → (job < length (t .jobs)) × Confirmed r (needed (actionOf (jobOf t job)))
-      needs-met job a =
-          let n = list-named paired A goal l r job some a in
-          let d = good .derived (suc (n .0)) (omega arith) (n .1) in
-          let its = entryIn D l (suc (n .0)) .action in
-          let needs : Confirmed r (needed (actionOf (jobOf t its))) =
-          regressed-confirmed r (actionOf (jobOf t its)) _ (rw (d .condition-regressed) at (n .3)) in
-          (rw (n .2) at (known (suc (n .0)) (omega arith) (n .1)), rw (n .2) at needs)
+      module _ (r : Reading) (sounds : sound (t .facts) r ≡ true) where
+        apart : T (not (intersects (r .held) (r .unread)))
+        apart = sound-apart (t .facts) r (holds _ sounds)
 
-      two-differ : (m : ℕ) → tickTree r (treeOf paired l) .answer ≡ Unsettled m
-          → (s u : ℕ) × Completes r s × Completes r u × (tickBytes table (treeBytes paired l) (state s) ≡ tickBytes table (treeBytes paired l) (state u) → ⊥)
-      two-differ m a =
-          let d = list-differ paired l r m apart one-way some a in (
-            d .0,
-            d .1,
-            d .2,
-            d .3,
-            λ same. d .4 (accepted-same (sym (filled (d .0) (d .2)) ∙ same ∙ filled (d .1) (d .3))),
-          )
-        where
-          filled : (s : ℕ) → Completes r s → tickBytes table (treeBytes paired l) (state s) ≡ accepted (tickTree (state s) (treeOf paired l))
-          filled s k = state-tick s (completes-within (t .facts) r (holds _ sounds) s k)
+        needs-met : (job : ℕ) → tickTree r (treeOf mine paired l) .answer ≡ Running job → (job < length (t .jobs)) × Confirmed r (needed (actionOf (jobOf t job)))
+        needs-met job a =
+            let n = list-named mine paired A goal l r job some a in
+            let d = good .derived (suc (n .0)) (omega arith) (n .1) in
+            let its = entryIn D l (suc (n .0)) .action in
+            let needs : Confirmed r (needed (actionOf (jobOf t its))) =
+            regressed-confirmed r (actionOf (jobOf t its)) _ (rw (d .condition-regressed) at (n .3)) in
+            (rw (n .2) at (known (suc (n .0)) (omega arith) (n .1)), rw (n .2) at needs)
 
-      ticks-well : Ticks t table (treeBytes paired l) r
-      ticks-well = record { answer = tickTree r (treeOf paired l); is-answer = tick-is r sounds; needs-held = needs-met; unsettled = two-differ }
+        two-differ : (m : ℕ) → tickTree r (treeOf mine paired l) .answer ≡ Unsettled m
+            → (s u : ℕ) × Completes r s × Completes r u × (tickBytes table tree (state s) ≡ tickBytes table tree (state u) → ⊥)
+        two-differ m a =
+            let d = list-differ mine paired l r m apart one-way some a in (
+              d .0,
+              d .1,
+              d .2,
+              d .3,
+              λ same. d .4 (accepted-same (sym (filled (d .0) (d .2)) ∙ same ∙ filled (d .1) (d .3))),
+            )
+          where
+            filled : (s : ℕ) → Completes r s → tickBytes table tree (state s) ≡ accepted (tickTree (state s) (treeOf mine paired l))
+            filled s k = state-tick s (completes-within (t .facts) r (holds _ sounds) s k)
 
-    fails-iff : (s : ℕ) → T (within (t .facts) s) → (answered (tickBytes table (treeBytes paired l) (state s)) ≡ accepted Failure) ↔ (CoveredBy D l s → ⊥)
-    fails-iff s w =
-        let f = list-fails paired A goal l s some in
-        rw (state-tick s w) ((λ e. f .0 (accepted-same e)), (λ n. ap accepted (f .1 n)))
+        ticks-well : Ticks t table tree r
+        ticks-well = record { answer = tickTree r (treeOf mine paired l); is-answer = tick-is r sounds; needs-held = needs-met; unsettled = two-differ }
+
+        -- he sees what is his of the tree with all jobs
+        pub list-answer : answered (tickBytes table tree r) ≡ accepted (seenBy mine (tickTree r (treeOf everyone paired l) .answer))
+        list-answer = rw (tick-is r sounds) (ap accepted (list-seen mine paired l r some))
+
+      fails-iff : (s : ℕ) → T (within (t .facts) s) → (answered (tickBytes table tree (state s)) ≡ accepted Failure) ↔ (CoveredBy D l s → ⊥)
+      fails-iff s w =
+          let f = list-fails mine paired A goal l s some in
+          rw (state-tick s w) ((λ e. f .0 (accepted-same e)), (λ n. ap accepted (f .1 n)))
+
+      pub list-serves : {Best : ℕ → Type 0} → ((s : ℕ) → T (within (t .facts) s) → CoveredBy D l s → Best s) → Works Best t table l tree
+      list-serves best = record { best = best; fails = fails-iff; ticks = ticks-well }
+
+    -- with all jobs it answers as the list does
+    pub state-agrees : (s : ℕ) → answerOfStatus (tickTree (state s) (treeOf everyone paired l) .answer) ≡ tickList D l s
+    state-agrees s = list-agrees paired A goal l s some
 
     pub list-works : FewestJobs t table l (treeBytes paired l)
-    list-works = record { best = run-fewest; fails = fails-iff; ticks = ticks-well }
+    list-works =
+        list-serves everyone (list-fewest (tickOn table (treeBytes paired l)) (λ s w. ap runAnswer (state-tick everyone s w) ∙ state-agrees s))
 
   -- ---- the stops of a plan
 
@@ -211,7 +240,7 @@ module _ (table : List ℕ) (b : AreBytes table) (t : Table) (e : readTable tabl
   abbrev NoWay : ℕ → ℕ → Type 0
   NoWay n p = (n ≡ 11) × (p ≡ length (entries ending)) × (listedBy until ending ≡ refused n p) × ((l : List (Entry Condition)) × (ending ≡ exhausted l))
 
-  list-stops : (n p : ℕ) → listedBy until ending ≡ refused n p → ((n ≡ 10) × (p ≡ capacity)) ⊎ NoWay n p
+  pub list-stops : (n p : ℕ) → listedBy until ending ≡ refused n p → ((n ≡ 10) × (p ≡ capacity)) ⊎ NoWay n p
   list-stops n p e₀ = by-end until ending refl e₀
     where
       by-end : (u : Until) (o : Outcome Condition) → ending ≡ o → listedBy u o ≡ refused n p → ((n ≡ 10) × (p ≡ capacity)) ⊎ NoWay n p

@@ -2,6 +2,7 @@
 // document 02, W10).
 use expander::Expanded;
 use expander::Until;
+use licences::Fitter;
 use refusal::Reason;
 use refusal::Refusal;
 use table::Header;
@@ -15,7 +16,7 @@ ghost use Rattle.tree.specs.ReadTree.{maxChildren};
 ghost use Rattle.conditions.specs.Condition.{plain};
 ghost use Rattle.expander.specs.Expands.{columns, room, Unlent, expandedOf, Expands};
 ghost use Rattle.flat.specs.TreeBytes.{treeEntries};
-ghost use Rattle.builder.specs.Plan.{tableActions, pairs, withTree, tablePlan, sizeOf, listedOf, builtOf, WritesTree, WritesPlan};
+ghost use Rattle.builder.specs.Plan.{tableActions, pairs, withTree, tablePlan, sizeOf, listedOf, builtOf, WritesList, WritesTree, WritesPlan};
 
 // The entries of a list and the bytes of its tree, and whether both hold second masks.
 pub struct Size {
@@ -30,7 +31,8 @@ pub enum Built {
     Refused(Refusal),
 }
 
-// Lists the conditions from which the jobs of a sound table lead to its goal, up to the first that ends the list.
+// Lists the conditions from which the jobs of a sound table lead to its goal, up to the first that ends the list. No second masks are lent where the
+// table has no 0x21.
 fn expand_goal(
     table: &[u8],
     header: Header,
@@ -104,7 +106,38 @@ fn as_listed(until: Until, expanded: Expanded) -> Listed
     }
 }
 
-// Writes the tree of the list's first n entries, where it has room.
+// The list of a sound table's goal, up to what ends it, in list tables of which the second masks are of no use to a table without a 0x21: then they are
+// neither counted nor written, however many are lent.
+pub fn list_goal(
+    table: &[u8],
+    header: Header,
+    until: Until,
+    conditions: &mut [u64],
+    absences: &mut [u64],
+    actions: &mut [u8],
+    parents: &mut [u16],
+    depths: &mut [u16],
+) -> Listed
+    requires { ⌜ accepted header ≡ headed (readTable (now table)) ⌝ }
+    ensures { λ r. ⌜ ((t : Table) → accepted t ≡ readTable (now (table .entry)) → WritesList until t
+        (columns (now (conditions .entry)) (now (absences .entry)) (now (actions .entry)) (now (parents .entry)) (now (depths .entry)))
+        (columns (now (conditions .exit)) (now (absences .exit)) (now (actions .exit)) (now (parents .exit)) (now (depths .exit))) (listedOf r)) ⌝ }
+{
+    let used = expander::if_paired(header.paired, absences.len());
+    let expanded = expand_goal(
+        table,
+        header,
+        until,
+        conditions,
+        &mut absences[..used],
+        actions,
+        parents,
+        depths,
+    );
+    as_listed(until, expanded)
+}
+
+// Writes the tree of the list's first n entries, where it has room. There are no licences, so that every job is one fitter's.
 fn fit_tree(
     paired: bool,
     n: usize,
@@ -119,14 +152,24 @@ fn fit_tree(
         (treeEntries (now (conditions .entry)) (now (absences .entry)) (now (actions .entry)) n))
         (now (tree .entry)) (now (tree .exit)) (builtOf r) ⌝ }
 {
-    let bytes = flat::tree_size(paired, n);
+    let leaves = commands::JOB_LEAF_SIZE * (n - 1);
+    let bytes = flat::tree_size(paired, n, leaves);
     if tree.len() < bytes {
         return Built::Refused(Refusal {
             reason: Reason::TreeTooShort,
             place: n,
         });
     }
-    flat::write_tree(paired, n, conditions, absences, actions, tree);
+    flat::write_tree(
+        paired,
+        n,
+        conditions,
+        absences,
+        actions,
+        &actions[..0],
+        Fitter::First,
+        tree,
+    );
     Built::Whole(Size {
         entries: n,
         bytes,
@@ -134,46 +177,7 @@ fn fit_tree(
     })
 }
 
-// The list up to what ends it, and its tree, of a table that was read. No second masks are lent where it has no 0x21.
-fn build_in(
-    table: &[u8],
-    header: Header,
-    until: Until,
-    conditions: &mut [u64],
-    absences: &mut [u64],
-    actions: &mut [u8],
-    parents: &mut [u16],
-    depths: &mut [u16],
-    tree: &mut [u8],
-) -> Built
-    requires { ⌜ (accepted header ≡ headed (readTable (now table))) × Unlent (header .paired) (now absences) ⌝ }
-    ensures { λ r. ⌜ ((t : Table) → accepted t ≡ readTable (now (table .entry)) → WritesPlan
-        (tablePlan until t
-        (room (columns (now (conditions .entry)) (now (absences .entry)) (now (actions .entry)) (now (parents .entry)) (now (depths .entry))))
-        (length (now (tree .entry))) (sizeOf (pairs t)))
-        (columns (now (conditions .entry)) (now (absences .entry)) (now (actions .entry)) (now (parents .entry)) (now (depths .entry)))
-        (columns (now (conditions .exit)) (now (absences .exit)) (now (actions .exit)) (now (parents .exit)) (now (depths .exit)))
-        (now (tree .entry)) (now (tree .exit)) (builtOf r)) ⌝ }
-{
-    let paired = header.paired;
-    let expanded = expand_goal(
-        table,
-        header,
-        until,
-        conditions,
-        absences,
-        actions,
-        parents,
-        depths,
-    );
-    match as_listed(until, expanded) {
-        Listed::Refused(x) => Built::Refused(x),
-        Listed::Entries(n) => fit_tree(paired, n, conditions, absences, actions, tree),
-    }
-}
-
-// The same, in list tables of which the second masks are of no use to a table without a 0x21: then they are neither counted nor written, however many
-// are lent.
+// The list and its tree.
 pub fn build(
     table: &[u8],
     header: Header,
@@ -194,16 +198,18 @@ pub fn build(
         (columns (now (conditions .exit)) (now (absences .exit)) (now (actions .exit)) (now (parents .exit)) (now (depths .exit)))
         (now (tree .entry)) (now (tree .exit)) (builtOf r)) ⌝ }
 {
-    let used = expander::if_paired(header.paired, absences.len());
-    build_in(
+    let paired = header.paired;
+    match list_goal(
         table,
         header,
         until,
         conditions,
-        &mut absences[..used],
+        absences,
         actions,
         parents,
         depths,
-        tree,
-    )
+    ) {
+        Listed::Refused(x) => Built::Refused(x),
+        Listed::Entries(n) => fit_tree(paired, n, conditions, absences, actions, tree),
+    }
 }

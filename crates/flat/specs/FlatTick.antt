@@ -1,8 +1,8 @@
--- The tick of a list's tree, entry by entry, and what is said of its answers: document 01, "Ticking".
+-- The tick of a list's tree, entry by entry, and what is said of its answers: document 01, "Ticking"; document 02, W12.
 -- Definitions only.
 use Prim.Native.Nat.{ℕ, _<_}
 use mathlib.Core.Path.{_≡_}
-use mathlib.Core.Bool.{Bool}
+use mathlib.Core.Bool.{Bool, true, false}
 use mathlib.Core.List.{List, [], _∷_}
 use lib.Dec.{T}
 use lib.ListN.{length, getD}
@@ -13,7 +13,7 @@ use Rattle.conditions.specs.Condition.{consistent, satisfied}
 use Rattle.conditions.specs.OnReading.{evaluated, Confirmed}
 use Rattle.planning.specs.Expansion.{Entry}
 use Rattle.tree.specs.declared.Status.{Status}
-use Rattle.tree.specs.declared.Status.the-variants.{Success, Failure, Running, Unsettled}
+use Rattle.tree.specs.declared.Status.the-variants.{Success, Failure, Running, Unsettled, Waiting}
 use Rattle.tree.specs.Tick.{Verdict}
 use Rattle.flat.specs.TreeBytes.{conditionAt, actionAt, pastEntry, rootConditionAt}
 use Rattle.flat.specs.FlatTree.{laterAt, Each}
@@ -21,14 +21,19 @@ use Rattle.flat.specs.FlatTree.{laterAt, Each}
 abbrev pub verdict : Status → ℕ → Verdict
 verdict a leaf = record { answer = a; leaf = leaf }
 
-module _ (paired : Bool) (r : Reading) where
+-- what an action's leaf answers, to the one whose it is and to another: "one of them is given a job and the other waits"
+abbrev pub leafStatus : (mine : Bool) → ℕ → Status
+leafStatus true action = Running action
+leafStatus false action = Waiting
+
+module _ (mine : ℕ → Bool) (paired : Bool) (r : Reading) where
   -- the entries after the first, from an offset on; the leaf before them failed
   unfoldable pub laterVerdict : ℕ → List (Entry Condition) → ℕ → Verdict
   laterVerdict before [] at = verdict Failure before
   laterVerdict before (x ∷ l) at =
       elim (evaluated r (x .condition)) [
-        | Met ↦ verdict (Running (x .action)) (actionAt paired x at)
-        | Missed ↦ laterVerdict (conditionAt at) l (pastEntry paired x at)
+        | Met ↦ verdict (leafStatus (mine (x .action)) (x .action)) (actionAt paired x at)
+        | Missed ↦ laterVerdict (conditionAt at) l (pastEntry mine paired x at)
         | Open m ↦ verdict (Unsettled m) (conditionAt at)
       ]
 
@@ -40,6 +45,14 @@ module _ (paired : Bool) (r : Reading) where
         | Missed ↦ laterVerdict (rootConditionAt (length (x ∷ l))) l (laterAt paired (length (x ∷ l)) x)
         | Open m ↦ verdict (Unsettled m) (rootConditionAt (length (x ∷ l)))
       ]
+
+-- what a tick of the tree with all actions answers, as one sees it who has some of them
+abbrev pub seenBy : (mine : ℕ → Bool) → Status → Status
+seenBy mine Success = Success
+seenBy mine Failure = Failure
+seenBy mine (Running action) = leafStatus (mine action) action
+seenBy mine (Unsettled mask) = Unsettled mask
+seenBy mine Waiting = Waiting
 
 -- ---- what is asked of the list
 

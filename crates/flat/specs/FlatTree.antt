@@ -1,4 +1,4 @@
--- The tree that the bytes of an expansion list hold: document 01, "Expansion". Source document 001 calls it the flat tree.
+-- The tree that the bytes of an expansion list hold: document 01, "Expansion"; document 02, W12. Source document 001 calls it the flat tree.
 -- Definitions only.
 use Prim.Native.Nat.{ℕ, _≤_, _<_}
 use mathlib.Core.Path.{_≡_}
@@ -11,36 +11,42 @@ use Rattle.conditions.specs.Condition.{conditionWithin}
 use Rattle.planning.specs.Expansion.{Entry}
 use Rattle.planning.specs.Columns.{maxEntries}
 use Rattle.tree.specs.declared.Kind.the-variants.{Fallback, Sequence}
-use Rattle.tree.specs.declared.Leaf.the-variants as Leaf
+use Rattle.tree.specs.declared.Leaf.{Leaf}
+use Rattle.tree.specs.declared.Leaf.the-variants as L
 use Rattle.tree.specs.Tree.{Tree, Row, leaf, node, one, more}
 use Rattle.tree.specs.ReadTree.{maxChildren}
 use Rattle.flat.specs.TreeBytes.{firstBytes, conditionAt, actionAt, pastEntry, rootConditionAt}
 
+-- an action's leaf, in the tree of the one whose it is, or of another
+abbrev pub leafOf : (mine : Bool) → ℕ → Leaf
+leafOf true action = L.Action action
+leafOf false action = L.Wait
+
 -- both kinds of lists have the same tree but for the offsets of its leaves
-module _ (paired : Bool) where
+module _ (mine : ℕ → Bool) (paired : Bool) where
   -- an entry after the first, whose SEQUENCE stands at an offset
   abbrev pub laterTree : Entry Condition → ℕ → Tree
   laterTree x at =
-      node Sequence (more (leaf (Leaf.Condition (x .condition)) (conditionAt at)) (one (leaf (Leaf.Action (x .action)) (actionAt paired x at))))
+      node Sequence (more (leaf (L.Condition (x .condition)) (conditionAt at)) (one (leaf (leafOf (mine (x .action)) (x .action)) (actionAt paired x at))))
 
   -- a child, and one more for each of the entries, the first of which stands at an offset
   unfoldable pub rowFrom : Tree → List (Entry Condition) → ℕ → Row
   rowFrom t [] at = one t
-  rowFrom t (x ∷ l) at = more t (rowFrom (laterTree x at) l (pastEntry paired x at))
+  rowFrom t (x ∷ l) at = more t (rowFrom (laterTree x at) l (pastEntry mine paired x at))
 
 -- the condition of entry 0, in a list of n entries
 abbrev pub rootTree : ℕ → Entry Condition → Tree
-rootTree n x = leaf (Leaf.Condition (x .condition)) (rootConditionAt n)
+rootTree n x = leaf (L.Condition (x .condition)) (rootConditionAt n)
 
-module _ (paired : Bool) where
-  -- where the entries after the first begin
-  abbrev pub laterAt : ℕ → Entry Condition → ℕ
-  laterAt n x = length (firstBytes paired n (x .condition))
+-- where the entries after the first begin
+abbrev pub laterAt : (paired : Bool) → ℕ → Entry Condition → ℕ
+laterAt paired n x = length (firstBytes paired n (x .condition))
 
+module _ (mine : ℕ → Bool) (paired : Bool) where
   -- a list has at least entry 0; of none nothing is said
   unfoldable pub treeOf : List (Entry Condition) → Tree
-  treeOf [] = leaf (Leaf.Action 0) 0
-  treeOf (x ∷ l) = node Fallback (rowFrom paired (rootTree (length (x ∷ l)) x) l (laterAt (length (x ∷ l)) x))
+  treeOf [] = leaf (L.Action 0) 0
+  treeOf (x ∷ l) = node Fallback (rowFrom mine paired (rootTree (length (x ∷ l)) x) l (laterAt paired (length (x ∷ l)) x))
 
 -- ---- the lists whose trees pass the checks of a tree, for a table with so many facts and jobs
 

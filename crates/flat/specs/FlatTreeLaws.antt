@@ -3,60 +3,70 @@
 use Prim.Native.Nat.{ℕ, zero, suc, _<_}
 use native.Mathlib.Omega.{arith}
 use mathlib.Core.Path.{_≡_, refl, ap}
-use mathlib.Core.Bool.{Bool}
+use mathlib.Core.Bool.{Bool, true, false}
 use mathlib.Core.List.{List, [], _∷_, _++_}
 use lib.ListN.{length, getD}
+use Rattle.base.specs.Bools.{if_then_else_}
 use Rattle.conditions.specs.declared.Condition.{Condition}
+use Rattle.conditions.specs.Condition.{conditionAt}
 use Rattle.planning.specs.Expansion.{Entry}
 use Rattle.planning.specs.Columns.{entriesOf}
-use Rattle.flat.specs.TreeBytes.{laterEntries, treeBytes, treeEntries}
+use Rattle.flat.specs.TreeBytes.{conditionBytes, firstBytes, entryBytes, laterEntries, ownTree, treeEntries}
 use Rattle.flat.specs.FlatTree.{Each, EachLater}
 
--- ---- a tree shows of an entry its condition and its action
-
-abbrev Alike : List (Entry Condition) → List (Entry Condition) → Type 0
-Alike [] [] = Unit {0}
-Alike [] (y ∷ m) = ⊥
-Alike (x ∷ l) [] = ⊥
-Alike (x ∷ l) (y ∷ m) = (x .condition ≡ y .condition) × (x .action ≡ y .action) × Alike l m
-
-alike-length : (l m : List (Entry Condition)) → Alike l m → length l ≡ length m
-alike-length [] [] a = refl
-alike-length [] (y ∷ m) a = absurd a
-alike-length (x ∷ l) [] a = absurd a
-alike-length (x ∷ l) (y ∷ m) a = ap suc (alike-length l m (a .2))
+-- ---- a tree shows of an entry its action and its condition, of which the second mask only if the list is paired
 
 module _ (paired : Bool) where
-  alike-later : (l m : List (Entry Condition)) → Alike l m → laterEntries paired l ≡ laterEntries paired m
-  unfolding laterEntries
-  alike-later [] [] a = refl
-  alike-later [] (y ∷ m) a = absurd a
-  alike-later (x ∷ l) [] a = absurd a
-  alike-later (x ∷ l) (y ∷ m) a = rw (a .0, a .1, alike-later l m (a .2))
+  abbrev Alike : List (Entry Condition) → List (Entry Condition) → Type 0
+  Alike [] [] = Unit {0}
+  Alike [] (y ∷ m) = ⊥
+  Alike (x ∷ l) [] = ⊥
+  Alike (x ∷ l) (y ∷ m) = (conditionBytes paired (x .condition) ≡ conditionBytes paired (y .condition)) × (x .action ≡ y .action) × Alike l m
 
-  alike-tree : (l m : List (Entry Condition)) → Alike l m → treeBytes paired l ≡ treeBytes paired m
-  unfolding treeBytes
-  alike-tree [] [] a = refl
-  alike-tree [] (y ∷ m) a = absurd a
-  alike-tree (x ∷ l) [] a = absurd a
-  alike-tree (x ∷ l) (y ∷ m) a = rw (a .0, alike-length l m (a .2), alike-later l m (a .2))
+  alike-length : (l m : List (Entry Condition)) → Alike l m → length l ≡ length m
+  alike-length [] [] a = refl
+  alike-length [] (y ∷ m) a = absurd a
+  alike-length (x ∷ l) [] a = absurd a
+  alike-length (x ∷ l) (y ∷ m) a = ap suc (alike-length l m (a .2))
 
-alike-append : (l m : List (Entry Condition)) (x y : Entry Condition) → Alike l m → x .condition ≡ y .condition → x .action ≡ y .action
-    → Alike (l ++ (x ∷ [])) (m ++ (y ∷ []))
-alike-append [] [] x y a c d = (c, d, tt)
-alike-append [] (z ∷ m) x y a c d = absurd a
-alike-append (z ∷ l) [] x y a c d = absurd a
-alike-append (z ∷ l) (w ∷ m) x y a c d = (a .0, a .1, alike-append l m x y (a .2) c d)
+  alike-append : (l m : List (Entry Condition)) (x y : Entry Condition) → Alike l m → conditionBytes paired (x .condition) ≡ conditionBytes paired (y .condition)
+      → x .action ≡ y .action → Alike (l ++ (x ∷ [])) (m ++ (y ∷ []))
+  alike-append [] [] x y a c d = (c, d, tt)
+  alike-append [] (z ∷ m) x y a c d = absurd a
+  alike-append (z ∷ l) [] x y a c d = absurd a
+  alike-append (z ∷ l) (w ∷ m) x y a c d = (a .0, a .1, alike-append l m x y (a .2) c d)
 
--- the parents and the depths of the columns do not matter
-pub tree-columns : (paired : Bool) (conditions absences actions parents depths : List ℕ) (n : ℕ)
-    → treeBytes paired (entriesOf conditions absences actions parents depths n) ≡ treeBytes paired (treeEntries conditions absences actions n)
-tree-columns paired conditions absences actions parents depths n = alike-tree paired _ _ (alike n)
+  module _ (mine : ℕ → Bool) where
+    alike-later : (l m : List (Entry Condition)) → Alike l m → laterEntries mine paired l ≡ laterEntries mine paired m
+    unfolding laterEntries entryBytes
+    alike-later [] [] a = refl
+    alike-later [] (y ∷ m) a = absurd a
+    alike-later (x ∷ l) [] a = absurd a
+    alike-later (x ∷ l) (y ∷ m) a = rw (a .0, a .1, alike-later l m (a .2))
+
+    alike-tree : (l m : List (Entry Condition)) → Alike l m → ownTree mine paired l ≡ ownTree mine paired m
+    unfolding ownTree firstBytes
+    alike-tree [] [] a = refl
+    alike-tree [] (y ∷ m) a = absurd a
+    alike-tree (x ∷ l) [] a = absurd a
+    alike-tree (x ∷ l) (y ∷ m) a = rw (a .0, alike-length l m (a .2), alike-later l m (a .2))
+
+-- the parents and the depths of the columns do not matter, nor do the second masks where the list is not paired
+pub tree-columns : (mine : ℕ → Bool) (paired : Bool) (conditions absences actions parents depths : List ℕ) (n : ℕ)
+    → ownTree mine paired (treeEntries conditions absences actions n)
+    ≡ ownTree mine paired (entriesOf conditions (if paired then absences else []) actions parents depths n)
+unfolding conditionBytes
+tree-columns mine paired conditions absences actions parents depths n = alike-tree paired mine _ _ (alike n)
   where
-    alike : (n : ℕ) → Alike (entriesOf conditions absences actions parents depths n) (treeEntries conditions absences actions n)
+    shown : (paired : Bool) (i : ℕ) → conditionBytes paired (conditionAt conditions absences i) ≡ conditionBytes paired (conditionAt conditions (if paired then absences else []) i)
+    shown true i = refl
+    shown false i = refl
+
+    alike : (n : ℕ) → Alike paired (treeEntries conditions absences actions n) (entriesOf conditions (if paired then absences else []) actions parents depths n)
     alike zero = tt
     alike (suc n) =
-        alike-append (entriesOf conditions absences actions parents depths n) (treeEntries conditions absences actions n) _ _ (alike n) refl refl
+        alike-append paired (treeEntries conditions absences actions n) (entriesOf conditions (if paired then absences else []) actions parents depths n) _ _ (alike n)
+        (shown paired n) refl
 
 -- ---- what holds of each entry, by its place
 

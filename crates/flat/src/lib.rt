@@ -1,16 +1,20 @@
-// The tree of an expansion list, written to bytes (document 01, "Expansion"; document 02, W10). The list is lent as its columns of conditions, second
-// masks and actions. It is `paired` once its table has a 0x21: each condition is then written with both masks.
+// The tree of an expansion list, written to bytes (document 01, "Expansion"; document 02, W10 and W12). The list is lent as its columns of conditions,
+// second masks and actions. It is `paired` once its table has a 0x21: each condition is then written with both masks. The tree is that of one fitter:
+// where an action is the other's, he waits. Without licences all actions are the first fitter's.
 use conditions::Condition;
+use licences::Fitter;
 ghost use mathlib.Core.Path.{_≡_};
+ghost use mathlib.Core.Bool.{Bool};
 ghost use mathlib.Core.List.{List, _∷_, _++_};
-ghost use Prim.Native.Nat.{_+_, _≤_};
+ghost use Prim.Native.Nat.{ℕ, _+_, _*_, _≤_};
 ghost use lib.ListN.{length, drop};
-ghost use Rattle.commands.specs.Commands.{MASK-WIDTH};
+ghost use Rattle.commands.specs.Commands.{JOB-LEAF-SIZE, MASK-WIDTH};
 ghost use Rattle.numbers.specs.Numbers.{toBytes};
 ghost use Rattle.conditions.specs.declared.Condition.{Condition};
 ghost use Rattle.planning.specs.Expansion.{Entry};
 ghost use Rattle.tree.specs.ReadTree.{maxChildren, countWidth};
-ghost use Rattle.flat.specs.TreeBytes.{conditionBytes, actionBytes, endBytes, firstBytes, entryBytes, laterEntries, treeBytes, treeEntries, Puts};
+ghost use Rattle.licences.specs.Licences.{owns};
+ghost use Rattle.flat.specs.TreeBytes.{conditionBytes, leafBytes, endBytes, firstBytes, entryBytes, laterEntries, ownTree, treeEntries, leavesSize, Puts};
 
 // ---- sizes, by the one table of commands
 
@@ -23,15 +27,39 @@ fn condition_size(paired: bool) -> usize
     commands::CONDITION_SIZE
 }
 
-// How many bytes the tree of a list of so many entries takes.
-pub fn tree_size(paired: bool, n: usize) -> usize
-    requires { ⌜ (1 ≤ n) × (n ≤ maxChildren) ⌝ }
-    ensures { λ r. ⌜ ((l : List (Entry Condition)) → length l ≡ n → r ≡ length (treeBytes paired l)) ⌝ }
+fn leaf_size(mine: bool) -> usize
+    ensures { λ r. ⌜ ((action : ℕ) → r ≡ length (leafBytes mine action)) ⌝ }
+{
+    if mine {
+        return commands::JOB_LEAF_SIZE;
+    }
+    commands::WAITING_SIZE
+}
+
+// How many bytes the leaves take that stand for the actions of the entries after the first, in the fitter's tree.
+pub fn leaves_size(n: usize, actions: &[u8], licences: &[u8], fitter: Fitter) -> usize
+    requires { ⌜ (1 ≤ n) × (n ≤ maxChildren) × (n ≤ length (now actions)) ⌝ }
+    ensures { λ r. ⌜ (r ≤ JOB-LEAF-SIZE * maxChildren) × ((conditions absences : List ℕ) → r
+        ≡ leavesSize (owns (now (licences .entry)) fitter) (drop 1 (treeEntries conditions absences (now (actions .entry)) n))) ⌝ }
+{
+    let mut size: usize = 0;
+    let mut i: usize = 1;
+    while i < n {
+        size += leaf_size(licences::is_owner(licences, fitter, actions[i]));
+        i += 1;
+    }
+    size
+}
+
+// How many bytes a tree of a list of so many entries takes, by the bytes of its leaves.
+pub fn tree_size(paired: bool, n: usize, leaves: usize) -> usize
+    requires { ⌜ (1 ≤ n) × (n ≤ maxChildren) × (leaves ≤ JOB-LEAF-SIZE * maxChildren) ⌝ }
+    ensures { λ r. ⌜ ((mine : ℕ → Bool) (l : List (Entry Condition)) → length l ≡ n → leaves ≡ leavesSize mine (drop 1 l) → r ≡ length (ownTree mine paired l)) ⌝ }
 {
     let condition = condition_size(paired);
     let first = commands::FALLBACK_SIZE + condition;
-    let entry = commands::SEQUENCE_SIZE + condition + commands::JOB_LEAF_SIZE;
-    first + entry * (n - 1) + commands::END_OF_TREE_SIZE
+    let entry = commands::SEQUENCE_SIZE + condition;
+    first + entry * (n - 1) + leaves + commands::END_OF_TREE_SIZE
 }
 
 // ---- the parts of a tree: each is put at an offset, and the offset past it is answered
@@ -68,10 +96,15 @@ pub fn put_condition(tree: &mut [u8], at: usize, paired: bool, condition: Condit
     at + commands::PAIR_SIZE
 }
 
-pub fn put_action(tree: &mut [u8], at: usize, action: u8) -> usize
-    requires { ⌜ at + length (actionBytes action) ≤ length (now tree) ⌝ }
-    ensures { λ r. ⌜ Puts (actionBytes action) at (now (tree .entry)) (now (tree .exit)) r ⌝ }
+// The leaf of an action: the action, or in the tree of the other fitter that he waits.
+pub fn put_leaf(tree: &mut [u8], at: usize, mine: bool, action: u8) -> usize
+    requires { ⌜ at + length (leafBytes mine action) ≤ length (now tree) ⌝ }
+    ensures { λ r. ⌜ Puts (leafBytes mine action) at (now (tree .entry)) (now (tree .exit)) r ⌝ }
 {
+    if !mine {
+        tree[at] = commands::WAITING;
+        return at + commands::WAITING_SIZE;
+    }
     tree[at] = commands::JOB_LEAF;
     tree[at + commands::OPERANDS_AT] = action;
     at + commands::JOB_LEAF_SIZE
@@ -92,14 +125,15 @@ pub fn put_later(
     at: usize,
     paired: bool,
     condition: Condition,
+    mine: bool,
     action: u8,
 ) -> usize
-    requires { ⌜ at + length (entryBytes paired condition action) ≤ length (now tree) ⌝ }
-    ensures { λ r. ⌜ Puts (entryBytes paired condition action) at (now (tree .entry)) (now (tree .exit)) r ⌝ }
+    requires { ⌜ at + length (entryBytes paired condition mine action) ≤ length (now tree) ⌝ }
+    ensures { λ r. ⌜ Puts (entryBytes paired condition mine action) at (now (tree .entry)) (now (tree .exit)) r ⌝ }
 {
     let condition_at = put_branch(tree, at, commands::SEQUENCE, 2);
-    let action_at = put_condition(tree, condition_at, paired, condition);
-    put_action(tree, action_at, action)
+    let leaf_at = put_condition(tree, condition_at, paired, condition);
+    put_leaf(tree, leaf_at, mine, action)
 }
 
 pub fn put_end(tree: &mut [u8], at: usize) -> usize
@@ -119,40 +153,58 @@ fn put_entries(
     conditions: &[u64],
     absences: &[u64],
     actions: &[u8],
+    licences: &[u8],
+    fitter: Fitter,
     tree: &mut [u8],
     first: usize,
 ) -> usize
     requires { ⌜ (1 ≤ n) × (n ≤ length (now actions))
-        × (first + length (laterEntries paired (drop 1 (treeEntries (now conditions) (now absences) (now actions) n))) ≤ length (now tree)) ⌝ }
-    ensures { λ r. ⌜ Puts (laterEntries paired (drop 1 (treeEntries (now (conditions .entry)) (now (absences .entry)) (now (actions .entry)) n))) first
+        × (first + length (laterEntries (owns (now licences) fitter) paired (drop 1 (treeEntries (now conditions) (now absences) (now actions) n))) ≤ length (now tree)) ⌝ }
+    ensures { λ r. ⌜ Puts (laterEntries (owns (now (licences .entry)) fitter) paired
+        (drop 1 (treeEntries (now (conditions .entry)) (now (absences .entry)) (now (actions .entry)) n))) first
         (now (tree .entry)) (now (tree .exit)) r ⌝ }
 {
     let mut at = first;
     let mut i: usize = 1;
     while i < n {
         let condition = conditions::condition_at(conditions, absences, i);
-        at = put_later(tree, at, paired, condition, actions[i]);
+        let mine = licences::is_owner(licences, fitter, actions[i]);
+        at = put_later(tree, at, paired, condition, mine, actions[i]);
         i += 1;
     }
     at
 }
 
-// Writes the tree of the first `n` entries, and nothing past it. The second masks may be lent short: past their end nothing is to be absent.
+// Writes the fitter's tree of the first `n` entries, and nothing past it. The second masks may be lent short: past their end nothing is to be absent.
 pub fn write_tree(
     paired: bool,
     n: usize,
     conditions: &[u64],
     absences: &[u64],
     actions: &[u8],
+    licences: &[u8],
+    fitter: Fitter,
     tree: &mut [u8],
 )
     requires { ⌜ (1 ≤ n) × (n ≤ maxChildren) × (n ≤ length (now actions))
-        × (length (treeBytes paired (treeEntries (now conditions) (now absences) (now actions) n)) ≤ length (now tree)) ⌝ }
-    ensures { λ _. ⌜ now (tree .exit) ≡ treeBytes paired (treeEntries (now (conditions .entry)) (now (absences .entry)) (now (actions .entry)) n)
-        ++ drop (length (treeBytes paired (treeEntries (now (conditions .entry)) (now (absences .entry)) (now (actions .entry)) n))) (now (tree .entry)) ⌝ }
+        × (length (ownTree (owns (now licences) fitter) paired (treeEntries (now conditions) (now absences) (now actions) n)) ≤ length (now tree)) ⌝ }
+    ensures { λ _. ⌜ now (tree .exit)
+        ≡ ownTree (owns (now (licences .entry)) fitter) paired (treeEntries (now (conditions .entry)) (now (absences .entry)) (now (actions .entry)) n)
+        ++ drop (length (ownTree (owns (now (licences .entry)) fitter) paired
+        (treeEntries (now (conditions .entry)) (now (absences .entry)) (now (actions .entry)) n))) (now (tree .entry)) ⌝ }
 {
     let goal = conditions::condition_at(conditions, absences, 0);
     let first = put_first(tree, paired, n as u16, goal);
-    let end = put_entries(paired, n, conditions, absences, actions, tree, first);
+    let end = put_entries(
+        paired,
+        n,
+        conditions,
+        absences,
+        actions,
+        licences,
+        fitter,
+        tree,
+        first,
+    );
     put_end(tree, end);
 }

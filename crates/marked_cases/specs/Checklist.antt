@@ -13,7 +13,7 @@ use Rattle.reading.specs.Reading.{state}
 use Rattle.conditions.specs.declared.Condition.{Condition}
 use Rattle.tree.specs.declared.Leaf.the-variants.{Action}
 use Rattle.tree.specs.declared.Status.{Status}
-use Rattle.tree.specs.declared.Status.the-variants.{Success, Failure, Running, Unsettled}
+use Rattle.tree.specs.declared.Status.the-variants.{Success, Failure, Running, Unsettled, Waiting}
 use Rattle.tree.specs.Tree as Shape
 use Rattle.tree.specs.ReadTree.{readTree}
 use Rattle.tree.specs.Tick.{Verdict, tickTree}
@@ -57,6 +57,7 @@ codeOf Success = 0
 codeOf Failure = 1
 codeOf (Running job) = 4 * job + 2
 codeOf (Unsettled mask) = 4 * mask + 3
+codeOf Waiting = 4
 
 abbrev same : Verdict → Verdict → Bool
 same v w = eqb (codeOf (v .answer)) (codeOf (w .answer)) && eqb (v .leaf) (w .leaf)
@@ -66,6 +67,7 @@ isFailure Success = false
 isFailure Failure = true
 isFailure (Running job) = false
 isFailure (Unsettled mask) = false
+isFailure Waiting = false
 
 -- each of these facts is read and held, and each of those is read and absent
 abbrev readHeld : ℕ → Reading → Bool
@@ -95,6 +97,7 @@ module _ (t : Table) (known : ℕ) where
   needsHeld Success r = true
   needsHeld Failure r = true
   needsHeld (Unsettled mask) r = true
+  needsHeld Waiting r = true
 
   -- "Both circumferences in before the seal?" Job 4 is named only where both are read and held.
   abbrev sealed : Status → Reading → Bool
@@ -102,6 +105,7 @@ module _ (t : Table) (known : ℕ) where
   sealed Success r = true
   sealed Failure r = true
   sealed (Unsettled mask) r = true
+  sealed Waiting r = true
 
   -- "Vehicle sent away as impossible?" Where all facts are read, the tree fails exactly where no listed condition is met.
   abbrev failsRightly : List (Entry Condition) → Status → Reading → Bool

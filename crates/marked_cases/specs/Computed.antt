@@ -22,7 +22,7 @@ use Rattle.planning.specs.Sequence.{Run, named}
 use Rattle.planning.specs.Expansion.{listed, expandEntry, expandFrom, expand}
 use Rattle.minutes.specs.Minutes.{nearest}
 use Rattle.runs.specs.Runs.{tickOn}
-use Rattle.flat.specs.TreeBytes.{conditionBytes, actionBytes, firstBytes, entryBytes, laterEntries, treeBytes}
+use Rattle.flat.specs.TreeBytes.{conditionBytes, leafBytes, firstBytes, entryBytes, laterEntries, ownTree}
 use Rattle.expander.specs.Expands.{capacityOf}
 use Rattle.builder.specs.Plan.{tableDomain, tablePlan}
 use Rattle.planner.specs.Plan.{startFor, planFor}
@@ -51,7 +51,7 @@ pub record Computed : Type 0 where
 
 texts-right : map (λ p. p .found) prints ≡ map (λ p. p .expected) prints
 unfolding named planFor startFor tablePlan capacityOf expand expandFrom expandEntry listed weaker consistent satisfied applied relevant regressed possible evaluated subset
-    intersects union difference within sound checkedAt checkedStart nearest conditionBytes actionBytes firstBytes entryBytes laterEntries treeBytes
+    intersects union difference within sound checkedAt checkedStart nearest conditionBytes leafBytes firstBytes entryBytes laterEntries ownTree
     widthOf commandAt fromBytes toBytes numberAt tableBytes jobsBytes jobBytes goalBytes hasPair Table.readTable Table.readJobs Table.readGoal Table.readEnd
     Table.due jobAt validatedJob tickBytes tickChecked tickBy Tree.wholeAt Tree.operandsOf Tree.nodeAt Tree.readRow Tree.readNode Tree.readTree
     Tree.readEnd programText filesPlan planText refusedText entriesText digits placesIn places
@@ -59,7 +59,7 @@ texts-right = refl
 
 pub computed : Computed
 unfolding named planShift planFor startFor tablePlan expand expandFrom expandEntry listed weaker consistent satisfied applied relevant regressed possible evaluated subset
-    intersects union difference within sound checkedAt checkedStart nearest conditionBytes actionBytes firstBytes entryBytes laterEntries treeBytes
+    intersects union difference within sound checkedAt checkedStart nearest conditionBytes leafBytes firstBytes entryBytes laterEntries ownTree
     widthOf commandAt fromBytes toBytes numberAt tableBytes jobsBytes jobBytes goalBytes hasPair Table.readTable Table.readJobs Table.readGoal Table.readEnd
     Table.due jobAt validatedJob tickBytes tickChecked tickBy Tree.wholeAt Tree.operandsOf Tree.nodeAt Tree.readRow Tree.readNode Tree.readTree
     Tree.readEnd readingsFrom

@@ -21,7 +21,7 @@ use Rattle.planning.specs.Sequence.{Run, named}
 use Rattle.planning.specs.Expansion.{listed, expandEntry, expandFrom, expand}
 use Rattle.minutes.specs.Minutes.{nearest}
 use Rattle.runs.specs.Runs.{tickOn}
-use Rattle.flat.specs.TreeBytes.{conditionBytes, actionBytes, firstBytes, entryBytes, laterEntries, treeBytes}
+use Rattle.flat.specs.TreeBytes.{conditionBytes, leafBytes, firstBytes, entryBytes, laterEntries, ownTree}
 use Rattle.expander.specs.Expands.{capacityOf}
 use Rattle.builder.specs.Plan.{tableDomain, tablePlan}
 use Rattle.planner.specs.Plan.{startFor, planFor}
@@ -42,7 +42,7 @@ pub record PairsComputed : Type 0 where
 
 pub pairs-computed : PairsComputed
 unfolding named planShift planFor startFor tablePlan capacityOf expand expandFrom expandEntry listed weaker consistent satisfied applied relevant regressed possible evaluated subset
-    intersects union difference within sound checkedAt checkedStart nearest conditionBytes actionBytes firstBytes entryBytes laterEntries treeBytes
+    intersects union difference within sound checkedAt checkedStart nearest conditionBytes leafBytes firstBytes entryBytes laterEntries ownTree
     widthOf commandAt fromBytes toBytes numberAt tableBytes jobsBytes jobBytes goalBytes hasPair Table.readTable Table.readJobs Table.readGoal Table.readEnd
     Table.due jobAt validatedJob tickBytes tickChecked tickBy Tree.wholeAt Tree.operandsOf Tree.nodeAt Tree.readRow Tree.readNode Tree.readTree
     Tree.readEnd readingsFrom

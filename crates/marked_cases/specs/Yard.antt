@@ -23,7 +23,7 @@ use Rattle.tree.specs.ReadTree as Tree
 use Rattle.tree.specs.Tick.{tickBy}
 use Rattle.tree.specs.TickBytes.{tickChecked, tickBytes}
 use Rattle.planning.specs.Expansion.{Entry}
-use Rattle.flat.specs.TreeBytes.{conditionBytes, actionBytes, firstBytes, entryBytes, laterEntries, treeBytes}
+use Rattle.flat.specs.TreeBytes.{conditionBytes, leafBytes, firstBytes, entryBytes, laterEntries, ownTree}
 use Rattle.batch_walk.specs.Batch.{readBy, entriesRead}
 use Rattle.batch_checks.specs.Checks.{entryFits, checkedList}
 use Rattle.batch_tick.specs.BatchTick.{entriesLent, BatchAnswer, checkedBatch, batchTicked}
@@ -92,7 +92,7 @@ pub record YardComputed : Type 0 where
 
 pub yard-computed : YardComputed
 unfolding batchTicked checkedBatch checkedList entryFits entriesLent readBy entriesRead possible evaluated subset intersects union within sound checkedAt
-    conditionBytes actionBytes firstBytes entryBytes laterEntries treeBytes widthOf commandAt fromBytes toBytes numberAt hasPair Table.readTable Table.readJobs
+    conditionBytes leafBytes firstBytes entryBytes laterEntries ownTree widthOf commandAt fromBytes toBytes numberAt hasPair Table.readTable Table.readJobs
     Table.readGoal Table.readEnd Table.due jobAt validatedJob tickBytes tickChecked tickBy Tree.wholeAt Tree.operandsOf Tree.nodeAt Tree.readRow Tree.readNode
     Tree.readTree Tree.readEnd
 yard-computed =

@@ -39,7 +39,7 @@ use Rattle.builder.specs.declared.Size.{Size}
 use Rattle.tree.specs.TickBytes.{tickChecked, tickBytes}
 use Rattle.runs.specs.Runs.{runAnswer, tickOn}
 use Rattle.builder.specs.Plan.{tableActions, tableDomain, pairs, noPlan, tablePlan, sizeOf, WritesPlan}
-use Rattle.builder.specs.PlanLaws.{columns-few, whole-told, listed-entries, plan-list, plan-paired, writes-other, writes-refused}
+use Rattle.builder.specs.PlanLaws.{covered-told, columns-few, whole-told, listed-entries, plan-list, plan-paired, writes-other, writes-refused}
 use Rattle.builder.specs.WorksLaws.{list-works}
 use Rattle.planner.specs.declared.Summary.{Summary}
 use Rattle.planner.specs.Plan.{wayOf, secondsOf, summaryOf, startFor, planFor}
@@ -157,12 +157,6 @@ module _ (t : Table) (capacity : ℕ) (few : capacity ≤ maxEntries (pairs t)) 
   way-held some = sym (way-is (length list - 1) (omega arith))
 
 -- ---- from the size of a list and its tree to what a plan has to tell
-
--- a list that covers a start was ended by a condition that the start meets
-pub covered-told : (start : ℕ) (o : Outcome Condition) (l : List (Entry Condition)) → listedBy (Covers start) o ≡ accepted l → o ≡ covered l
-covered-told start (full m) l e = absurd (not-both e)
-covered-told start (exhausted m) l e = absurd (not-both e)
-covered-told start (covered m) l e = ap covered (accepted-same e)
 
 -- Document 02, W5: the jobs that ticks name from a start are those from the entry that covers it along the parents to entry 0.
 module _ (table : List ℕ) (b : AreBytes table) (t : Table) (e : readTable table ≡ accepted t) (start : ℕ) (is-state : T (within (t .facts) start))

@@ -30,13 +30,13 @@ use Rattle.expander.specs.declared.Until.the-variants.{Covers}
 use Rattle.expander.specs.Expands.{Columns, room}
 use Rattle.runs.specs.Runs.{tickOn}
 use Rattle.builder.specs.Plan.{tableActions, tableDomain, pairs, Plan, noPlan, planBy, tablePlan, afterChecks, WritesPlan}
-use Rattle.builder.specs.PlanLaws.{columns-few, plan-list, whole-told}
+use Rattle.builder.specs.PlanLaws.{covered-told, columns-few, plan-list, whole-told}
 use Rattle.builder.specs.Works.{FewestJobs, Irredundant, NoRoom}
 use Rattle.builder.specs.WorksLaws.{separate, list-irredundant, list-works, plan-stops}
 use Rattle.planner.specs.declared.Summary.{Summary}
 use Rattle.planner.specs.declared.Planned.{Planned}
 use Rattle.planner.specs.Plan.{wayOf, summaryOf, startFor, planFor, plannedOf}
-use Rattle.planner.specs.PlanLaws.{covered-told, way-is-path}
+use Rattle.planner.specs.PlanLaws.{way-is-path}
 use Rattle.planner.specs.Promise.{Keeps, Plans}
 
 -- Of a table that was read, a start, and room for so many entries and so many bytes of a tree:

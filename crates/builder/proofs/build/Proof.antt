@@ -1,55 +1,65 @@
--- `builder::build` meets its contract: what is not lent of the second masks stays as it is, and is not counted.
+-- `builder::build` meets its contract: how the list ended is what the definition answers by.
 -- Assumes nothing.
-use native.Mathlib.Omega.{arith}
-use mathlib.Core.Path.{refl, sym, ap, _∙_}
-use mathlib.Core.Bool.{Bool}
-use Prim.Native.Nat.{_≤_}
-use lib.ListN.{length}
-use lib.Seq.{length-take-le}
+use mathlib.Core.Path.{_≡_, refl, ap}
 use borrow.Author.Needs.{needs}
+use Rattle.refusal.specs.Checked.{accepted}
 use Rattle.numbers.specs.Numbers.{AreBytes}
-use Rattle.expander.specs.Expands.{ifPaired}
-use Rattle.builder.specs.Plan.{pairs, sizeOf}
-use Rattle.expander.specs.ExpandsLaws.{if-most}
+use Rattle.table.specs.Table.{Table}
+use Rattle.table.specs.Read.{readTable, headerOf}
+use Rattle.table.specs.ReadLaws.{headed-sound}
+use Rattle.builder.specs.Plan.{pairs, sizeOf, listedOf}
 use Rattle.builder.specs.RowLaws.{header-paired}
-use Rattle.builder.specs.PlanLaws.{cut-unlent, writes-lent}
+use Rattle.builder.specs.PlanLaws.{writes-list, writes-built}
 use Rattle.builder.proofs.build.Statement.{statement}
 use Rattle.builder.proofs.build.Tie as tie
 
--- ---- it is known how much of the second masks is lent
+-- ---- the list is stored, and the tables are back
 
-abbrev Counted : Type 0
-Counted = tie.After-if-paired
+abbrev Stored : Type 0
+Stored = tie.After-slice-known11
 
-abbrev start-of : Counted → tie.Start
-start-of c = c .before .before .before .before .before .before .before .before
+abbrev list-of : Stored → tie.After-list-goal
+list-of c = c .before .before .before .before .before .before .before .before .before .before
 
-bytes : (c : Counted) → AreBytes (start-of c .args .table .now)
-bytes c = λ i. c .before .before .before .before .before .before .before .shared-slice-known .given i .fits
+abbrev start-of : Stored → tie.Start
+start-of c = list-of c .before .before .before .before .before .before .before .before .before .before .before .before .before
 
-used-few : (c : Counted) → c .if-paired .result ≤ length (start-of c .args .absences .now)
-used-few c = let a = start-of c .args in omega (arith, c .if-paired .ensures, if-most (a .header .paired) (length (a .absences .now)))
+bytes : (c : Stored) → AreBytes (start-of c .args .table .now)
+bytes c = λ i. list-of c .before .before .before .before .before .before .before .before .before .before .before .before .shared-slice-known .given i .fits
+
+-- the table that was read
+table-of : (c : Stored) → (t : Table) × (accepted t ≡ readTable (start-of c .args .table .now)) × (headerOf t ≡ start-of c .args .header)
+table-of c = headed-sound (readTable (start-of c .args .table .now)) (start-of c .pre)
+
+-- ---- it ended as was asked
+
+abbrev Listed : Type 0
+Listed = tie.After-n
+
+abbrev stored-of : Listed → Stored
+stored-of c = c .before .before
+
+ended-is : (c : Listed) → listedOf (list-of (stored-of c) .list-goal .result) ≡ accepted (c .n .given .0 .0)
+ended-is c = ap listedOf (c .n .given .1)
 
 -- ---- the answers, in the order of the code
 
-if-paired-requires : tie.Need-if-paired-requires
-if-paired-requires c κs = search needs
+list-goal-requires : tie.Need-list-goal-requires
+list-goal-requires c κs = search needs
 
-slice-relend-prefix-build-in : tie.Need-slice-relend-prefix-build-in
-slice-relend-prefix-build-in c = used-few (c .before)
+enum-known-x : tie.Need-enum-known-x
+enum-known-x c = search needs
 
-slice-aggregate-build-in : tie.Need-slice-aggregate-build-in
-slice-aggregate-build-in c = sym (length-take-le _ _ (used-few (c .before .before)))
+enum-known-n : tie.Need-enum-known-n
+enum-known-n c = search needs
 
--- the tables are lent on
-abbrev lending-of : tie.After-build-in-arg6 → Counted
-lending-of c = c .before .before .before .before .before .before
-
-build-in-requires : tie.Need-build-in-requires
-build-in-requires c κs =
-    let k = lending-of c in
-    let a = start-of k in
-    (a .pre, cut-unlent (a .args .header .paired) _ (a .args .absences .now) (k .if-paired .ensures))
+fit-tree-requires : tie.Need-fit-tree-requires
+fit-tree-requires c κs =
+    let x = c .before .before .before .before .before in
+    let k = stored-of x in
+    let t = table-of k in
+    let S = list-of k .list-goal .ensures (t .0) (t .1) .list-stands _ (ended-is x) in
+    (S .some, S .few, S .in-conditions, S .in-actions)
 
 same-length : tie.Need-same-length
 same-length c = search needs
@@ -66,31 +76,58 @@ same-length-4 c = search needs
 same-length-5 : tie.Need-same-length-5
 same-length-5 c = search needs
 
+returns : tie.Need-returns
+returns c =
+    let x = c .before in
+    let k = x .before .before in
+    λ t e. writes-list (list-of k .list-goal .ensures t e) (sizeOf (pairs t)) (start-of k .args .tree .now) _ _ _ (ap listedOf (x .x .given .1)) refl
+
 same-length-6 : tie.Need-same-length-6
 same-length-6 c = search needs
 
-returns : tie.Need-returns
-returns c =
-    let b = c .before .before .before .before .before .before .before .before .before .before .before .before in
-    let k = lending-of (b .before) in
-    let a = start-of k .args in
+same-length-7 : tie.Need-same-length-7
+same-length-7 c = search needs
+
+same-length-8 : tie.Need-same-length-8
+same-length-8 c = search needs
+
+same-length-9 : tie.Need-same-length-9
+same-length-9 c = search needs
+
+same-length-10 : tie.Need-same-length-10
+same-length-10 c = search needs
+
+same-length-11 : tie.Need-same-length-11
+same-length-11 c = search needs
+
+returns-2 : tie.Need-returns-2
+returns-2 c =
+    let w = c .before .before in
+    let x = w .before .before .before .before .before .before in
+    let s = stored-of x in
+    let a = start-of s .args in
     λ t e.
-    let paired = header-paired (a .table .now) (bytes k) (a .header) (start-of k .pre) t e in
-    let used = k .if-paired .ensures ∙ ap (λ (p : Bool). ifPaired p (length (a .absences .now))) paired in
-    writes-lent _ (a .absences .now) _ _ _ (a .until) t (sizeOf (pairs t)) _ _ _ _ _ _ _ _ _ _ used (b .build-in .ensures t e) refl
+    let paired = header-paired (a .table .now) (bytes s) (a .header) (start-of s .pre) t e in
+    writes-built (list-of s .list-goal .ensures t e) (a .tree .now) _ _ (ended-is x) _ (rw (paired) at (w .fit-tree .ensures))
 
 pub build-spec : {M : Type 1} → statement M
 build-spec =
     tie.close
     (tie.spec
-    if-paired-requires
-    slice-relend-prefix-build-in
-    slice-aggregate-build-in
-    build-in-requires
+    list-goal-requires
+    enum-known-x
+    enum-known-n
+    fit-tree-requires
     same-length
     same-length-2
     same-length-3
     same-length-4
     same-length-5
+    returns
     same-length-6
-    returns)
+    same-length-7
+    same-length-8
+    same-length-9
+    same-length-10
+    same-length-11
+    returns-2)

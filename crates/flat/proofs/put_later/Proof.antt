@@ -8,17 +8,17 @@ use Rattle.flat.proofs.put_later.Statement.{statement}
 use Rattle.flat.proofs.put_later.Tie as tie
 
 put-branch-requires : tie.Need-put-branch-requires
-put-branch-requires c κs = let a = c .before .before .args in omega (arith, entry-parts (a .paired) (a .condition) (a .action))
+put-branch-requires c κs = let a = c .before .before .args in omega (arith, entry-parts (a .paired) (a .condition) (a .mine) (a .action))
 
 put-condition-requires : tie.Need-put-condition-requires
 put-condition-requires c κs =
     let branch = c .before .before .before in
     let s = branch .before .before .before in
     let a = s .args in
-    omega (arith, branch .put-branch .kept .0, branch .put-branch .ensures .past, entry-parts (a .paired) (a .condition) (a .action), s .pre)
+    omega (arith, branch .put-branch .kept .0, branch .put-branch .ensures .past, entry-parts (a .paired) (a .condition) (a .mine) (a .action), s .pre)
 
-put-action-requires : tie.Need-put-action-requires
-put-action-requires c κs =
+put-leaf-requires : tie.Need-put-leaf-requires
+put-leaf-requires c κs =
     let condition = c .before .before .before in
     let branch = condition .before .before .before .before in
     let s = branch .before .before .before in
@@ -29,7 +29,7 @@ put-action-requires c κs =
       branch .put-branch .ensures .past,
       condition .put-condition .kept .0,
       condition .put-condition .ensures .past,
-      entry-parts (a .paired) (a .condition) (a .action),
+      entry-parts (a .paired) (a .condition) (a .mine) (a .action),
       s .pre,
     )
 
@@ -39,12 +39,12 @@ same-length c = search needs
 returns : tie.Need-returns
 unfolding entryBytes
 returns c =
-    let action = c .before .before in
-    let condition = action .before .before .before .before in
+    let leaf = c .before .before in
+    let condition = leaf .before .before .before .before in
     let branch = condition .before .before .before .before in
-    puts-then (branch .put-branch .ensures) (puts-then (condition .put-condition .ensures) (action .put-action .ensures))
+    puts-then (branch .put-branch .ensures) (puts-then (condition .put-condition .ensures) (leaf .put-leaf .ensures))
 
 pub put-later-spec : {M : Type 1} → statement M
 put-later-spec =
     tie.close
-    (tie.spec put-branch-requires put-condition-requires put-action-requires same-length returns)
+    (tie.spec put-branch-requires put-condition-requires put-leaf-requires same-length returns)

@@ -1,11 +1,13 @@
 -- `flat::write_tree` meets its contract: entry 0, the others and END are put one after the other, and fill the tree's bytes.
 -- Assumes nothing.
-use Prim.Native.Nat.{_+_}
+use Prim.Native.Nat.{ℕ, _+_}
 use mathlib.Core.Path.{_≡_}
+use mathlib.Core.Bool.{Bool}
 use lib.ListN.{length, drop}
 use borrow.Author.Needs.{needs}
 use native.Mathlib.Omega.{arith}
-use Rattle.flat.specs.TreeBytes.{endBytes, firstBytes, laterEntries, treeBytes, treeEntries}
+use Rattle.licences.specs.Licences.{owns}
+use Rattle.flat.specs.TreeBytes.{endBytes, firstBytes, laterEntries, ownTree, treeEntries}
 use Rattle.flat.specs.TreeBytesLaws.{puts-front, tree-room, tree-put}
 use Rattle.flat.proofs.write_tree.Statement.{statement}
 use Rattle.flat.proofs.write_tree.Tie as tie
@@ -16,7 +18,11 @@ abbrev Read : Type 0
 Read = tie.After-condition-at
 
 abbrev start-of : Read → tie.Start
-start-of c = c .before .before .before .before .before
+start-of c = c .before .before .before .before .before .before
+
+-- whose the actions are
+abbrev mine-of : Read → ℕ → Bool
+mine-of c = let a = start-of c .args in owns (a .licences .now) (a .fitter)
 
 abbrev read-of : tie.After-put-first → Read
 read-of c = c .before .before
@@ -26,13 +32,13 @@ first-of c = c .before .before .before .before
 
 -- the parts of the tree take its bytes
 parts : (c : Read) → let a = start-of c .args in
-    length (treeBytes (a .paired) (treeEntries (a .conditions .now) (a .absences .now) (a .actions .now) (a .n)))
+    length (ownTree (mine-of c) (a .paired) (treeEntries (a .conditions .now) (a .absences .now) (a .actions .now) (a .n)))
     ≡ length (firstBytes (a .paired) (a .n) (c .condition-at .result))
-    + length (laterEntries (a .paired) (drop 1 (treeEntries (a .conditions .now) (a .absences .now) (a .actions .now) (a .n)))) + length endBytes
+    + length (laterEntries (mine-of c) (a .paired) (drop 1 (treeEntries (a .conditions .now) (a .absences .now) (a .actions .now) (a .n)))) + length endBytes
 parts c =
     let s = start-of c in
     let a = s .args in
-    tree-room (a .paired) (a .conditions .now) (a .absences .now) (a .actions .now) (a .n) (s .pre .0) (c .condition-at .result) (c .condition-at .ensures)
+    tree-room (a .conditions .now) (a .absences .now) (a .actions .now) (mine-of c) (a .paired) (a .n) (s .pre .0) (c .condition-at .result) (c .condition-at .ensures)
 
 condition-at-requires : tie.Need-condition-at-requires
 condition-at-requires c κs = search needs
@@ -57,7 +63,7 @@ put-end-requires c κs =
       start-of (read-of first) .pre,
       first .put-first .kept .0,
       first .put-first .ensures .past,
-      others .put-entries .kept .1 .1 .1 .1 .1 .0,
+      others .put-entries .kept .1 .1 .1 .1 .1 .1 .1 .0,
       others .put-entries .ensures .past,
       parts (read-of first),
     )
@@ -73,7 +79,7 @@ returns c =
     let s = start-of (read-of first) in
     let a = s .args in
     puts-front
-    (tree-put (a .paired) (a .conditions .now) (a .absences .now) (a .actions .now) (a .n) (s .pre .0)
+    (tree-put (a .conditions .now) (a .absences .now) (a .actions .now) (mine-of (read-of first)) (a .paired) (a .n) (s .pre .0)
     (read-of first .condition-at .ensures) (first .put-first .ensures) (others .put-entries .ensures) (end .put-end .ensures))
     (s .pre .3)
 
