@@ -1,0 +1,2 @@
+pub mod TeamWords
+pub mod TeamWordLaws
