@@ -12,8 +12,8 @@
  *     word.
  *   Names: below each stands an inline function over it, bay_SUBJECT_VERB (bay_tree_plan over bay_plan, bay_card_open over bay_open),
  *     which lends the answer and gives its words names. Its result is a struct: `refusal` (BAY_OK, or why), `place` (0 unless refused),
- *     then the values, all 0 where the call was refused. A table, a tree, a list, a reading, a batch of vehicles and a card come as
- *     structs.
+ *     then the values, all 0 where the call was refused. A table, a tree, a list, a row of licences, a reading, a batch of vehicles and a
+ *     card come as structs.
  *
  * Lent buffers. A buffer is a pointer and a number of elements. The pointer is aligned for its type, and not null, also where the
  * number is 0. What one call is lent, `answer` and the parts of a card included, does not overlap, and nobody else writes to it
@@ -52,14 +52,16 @@ enum bay_job_command {
     BAY_PAIRED_JOB = 0x21 /* needs, absent, adds, deletes, seconds: it also needs facts to be absent */
 };
 
-/* Why a call is refused. F is the table's number of facts. The calls check in the order of the numbers, but for 19 and 22: a job is judged
- * by 4, 5, 6, 19 and 22 in this order; of a table and of a tree whatever is wrong earlier in its bytes comes first.
+/* Why a call is refused. F is the table's number of facts. The calls check in the order of the numbers, but for 19, 22 and 24: a job is
+ * judged by 4, 5, 6, 19 and 22 in this order, and licences by 24 after the whole table and before 8; of a table and of a tree whatever is
+ * wrong earlier in its bytes comes first.
  *
  * The place of a refusal is
  *   - the offset of the faulty command for 1 to 7, 13 to 15, 19 and 22; but where a command byte is missing (1, 13) the length of the
  *     table or tree; where bytes follow END (7, 13) the first of them; and 0 for a tree of more than BAY_MAX_TREE_BYTES (13);
  *   - of bay_tick_all, which has no tree, the vehicle for 8, 0 for 13, and the entry for 15;
  *   - the number of entries stored for 10 to 12;
+ *   - the index of the first licence that is none for 24; but where there are not as many as jobs, 0;
  *   - the number of the job for BAY_UNWRITABLE;
  *   - 0 for all others. */
 enum bay_refusal {
@@ -75,7 +77,7 @@ enum bay_refusal {
     BAY_START_UNREAD = 9,               /* a start for planning has an unread fact */
     BAY_LIST_FULL = 10,                 /* a condition to be stored would exceed the capacity */
     BAY_NO_WAY = 11,                    /* no sequence of jobs leads from the start to the goal */
-    BAY_TREE_TOO_SHORT = 12,            /* the lent tree has no room for the list's tree */
+    BAY_TREE_TOO_SHORT = 12,            /* a lent tree has no room for the list's tree */
     BAY_BAD_TREE = 13,                  /* a tree is overlong, cut or malformed, or goes on after its END; or a list has no entry, or too
                                            many */
     BAY_TREE_TOO_DEEP = 14,             /* a tree node is deeper than 16 */
@@ -87,6 +89,7 @@ enum bay_refusal {
                                            sum 5,400 times its count */
     BAY_JOB_TOO_LONG = 19,              /* a job is listed with more than 5,400 seconds */
     BAY_NEEDS_CONTRADICT = 22,          /* a job needs a fact both held and absent */
+    BAY_BAD_LICENCES = 24,              /* the licences are not as many as the jobs, or one is none of 1 to 3 */
 
     /* Of bay_write_table alone. */
     BAY_TOO_SHORT = 100,  /* the lent slice is shorter than the table */
@@ -323,6 +326,74 @@ static inline struct bay_shift_planned bay_tree_plan_shift(struct bay_table tabl
     return planned;
 }
 
+/* Whose a job is where two fitters work on one vehicle. A job with BAY_BOTH_FITTERS is given to the first. */
+enum bay_licence {
+    BAY_FIRST_FITTER = 1,
+    BAY_SECOND_FITTER = 2,
+    BAY_BOTH_FITTERS = 3
+};
+
+/* Plans from a start for two fitters: lists the conditions as bay_plan does, and writes a tree for each fitter, in which the jobs of the
+ * other are waiting leaves, of one byte. Job i has its licence at i of licences, of bay_licence; a table without jobs takes 0 of them.
+ * In every fully read state that the list covers short of the goal, a tick of one tree names a job and a tick of the other answers
+ * BAY_WAITING. Done in turn, these jobs reach the goal by the fewest jobs, and there both trees answer BAY_SUCCESS. One tree alone need
+ * not lead to the goal.
+ * The list tables are lent and left, and bound the list, as for bay_plan. The tree of n entries has 14 * n - 1 bytes, of a paired table
+ * 22 * n - 1, less one for each waiting leaf.
+ * answer: 0, entries, bytes of the first fitter's tree, bytes of the second's, and 1 if the table is paired and else 0.
+ * After the table's refusals comes 24, then those of bay_plan, of which 12 where either tree is shorter than its own bytes. Nothing is
+ * written past the list and the trees. After 10, 11 and 12 the list tables hold the entries stored, and both trees are untouched. */
+uint64_t bay_plan_team(const uint8_t *table, size_t table_len, const uint8_t *licences, size_t licences_len, uint64_t held,
+                       uint64_t unread, uint64_t *conditions, size_t conditions_len, uint64_t *absences, size_t absences_len,
+                       uint8_t *jobs, size_t jobs_len, uint16_t *parents, size_t parents_len, uint16_t *depths, size_t depths_len,
+                       uint8_t *first, size_t first_len, uint8_t *second, size_t second_len, uint64_t answer[5]);
+
+/* A licence for each job of a table. */
+struct bay_licences {
+    const uint8_t *bytes;
+    size_t length;
+};
+
+/* What a plan for two fitters is lent: the list tables as in bay_plan_room, and two trees. */
+struct bay_team_room {
+    uint64_t *conditions;
+    uint8_t *jobs;
+    uint16_t *parents;
+    uint16_t *depths;
+    size_t entries;
+    uint64_t *absences;
+    size_t absences_entries;
+    uint8_t *first;
+    size_t first_bytes;
+    uint8_t *second;
+    size_t second_bytes;
+};
+
+struct bay_team_planned {
+    enum bay_refusal refusal;
+    size_t place;
+    size_t entries;
+    size_t first_bytes;
+    size_t second_bytes;
+    int paired;
+};
+
+static inline struct bay_team_planned bay_tree_plan_team(struct bay_table table, struct bay_licences licences,
+                                                         struct bay_reading start, struct bay_team_room room) {
+    uint64_t answer[5];
+    struct bay_team_planned planned;
+    bay_plan_team(table.bytes, table.length, licences.bytes, licences.length, start.held, start.unread, room.conditions, room.entries,
+                  room.absences, room.absences_entries, room.jobs, room.entries, room.parents, room.entries, room.depths, room.entries,
+                  room.first, room.first_bytes, room.second, room.second_bytes, answer);
+    planned.refusal = bay_answer_refusal(answer);
+    planned.place = bay_answer_place(answer);
+    planned.entries = (size_t)bay_answer_value(answer, 1);
+    planned.first_bytes = (size_t)bay_answer_value(answer, 2);
+    planned.second_bytes = (size_t)bay_answer_value(answer, 3);
+    planned.paired = bay_answer_value(answer, 4) == 1;
+    return planned;
+}
+
 /* The search that a plan makes of each new condition, on any list: the newest entry whose condition is a part of the given one, that
  * is, wants no other fact held and no other absent. Entry i wants the facts of listed[i] held and those of absences[i] absent, of which
  * there may be fewer than of listed: an entry past their end wants nothing absent. answer: 0, 1 and the entry, or 0 and 0 where there is
@@ -366,11 +437,12 @@ enum bay_status {
     BAY_FAILURE = 1,
     BAY_RUNNING = 2,    /* with the number of the job to do next */
     BAY_UNSETTLED = 3,  /* with the mask of the facts to read first, to be held or to be absent */
+    BAY_WAITING = 4,    /* running, and no job is named: the other fitter has one to do */
     BAY_NO_STATUS = 255 /* in the result of a refused tick; no word of an answer is this */
 };
 
-/* Ticks a tree on a reading. Give it the bytes of one tree and none past them; conditions of one mask and of two may stand in any tree,
- * under any table. answer: 0, a status of the first four, the job or mask (0 where there is none). */
+/* Ticks a tree on a reading. Give it the bytes of one tree and none past them; conditions of one mask and of two, and waiting leaves, may
+ * stand in any tree, under any table. answer: 0, a status of the first five, the job or mask (0 where there is none). */
 uint64_t bay_tick(const uint8_t *table, size_t table_len, const uint8_t *tree, size_t tree_len, uint64_t held, uint64_t unread,
                   uint64_t answer[3]);
 
@@ -409,9 +481,9 @@ static inline struct bay_ticked bay_tree_tick(struct bay_table table, struct bay
  * Entry i of the list stands at i of conditions and jobs, of a paired table at i of absences too. The list has as many entries as the
  * shortest of the two, or of the three. Under any other table absences is neither read nor counted, and may have 0 elements. The job of
  * entry 0 is neither judged nor used. The list need not be a plan's.
- * Vehicle i has its reading at i of held and unread; its answer goes to i of statuses, one of the first four of bay_status, and to i of
- * values, the job or mask (0 where there is none). There are as many vehicles as the shortest of these four rows has elements: readings
- * past them are not judged, and nothing past them is written.
+ * Vehicle i has its reading at i of held and unread; its answer goes to i of statuses, one of the first four of bay_status, since a list
+ * has no waiting leaves, and to i of values, the job or mask (0 where there is none). There are as many vehicles as the shortest of these
+ * four rows has elements: readings past them are not judged, and nothing past them is written.
  * answer: 0, the number of entries read: 0 where there are no vehicles, all where a vehicle fails every entry, else one more than the
  * furthest entry at which a vehicle stopped.
  * After the table's refusals come 8 with the first vehicle whose reading is bad; 13 with 0 for a list of no entry, of more than

@@ -29,6 +29,8 @@ static uint8_t jobs[BAY_MAX_ENTRIES];
 static uint16_t parents[BAY_MAX_ENTRIES];
 static uint16_t depths[BAY_MAX_ENTRIES];
 static uint8_t tree_bytes[BAY_MAX_TREE_BYTES + 1];
+static uint8_t first_tree[112];
+static uint8_t second_tree[112];
 
 /* Document 01's trailer. */
 static const uint8_t commands[5] = {BAY_JOB, BAY_JOB, BAY_JOB, BAY_JOB, BAY_JOB};
@@ -63,6 +65,12 @@ static struct bay_plan_room room(size_t entries, size_t bytes) {
 
 static struct bay_plan_room pair_room(size_t entries, size_t absences_entries, size_t bytes) {
     struct bay_plan_room result = {conditions, jobs, parents, depths, entries, absences, absences_entries, tree_bytes, bytes};
+    return result;
+}
+
+static struct bay_team_room team_room(size_t entries, size_t first_bytes, size_t second_bytes) {
+    struct bay_team_room result = {conditions, jobs,       parents,     depths,      entries,     absences,
+                                   entries,    first_tree, first_bytes, second_tree, second_bytes};
     return result;
 }
 
@@ -269,6 +277,99 @@ static void ticks(void) {
     REFUSED(bay_tree_tick(table, deeper, reading(0x02, 0)), BAY_TREE_TOO_DEEP, 48);
 }
 
+/* Of the trailer the first fitter measures, the second couples and uncouples, and both may seal. */
+static const uint8_t licence_bytes[6] = {BAY_SECOND_FITTER, BAY_SECOND_FITTER, BAY_FIRST_FITTER,
+                                         BAY_FIRST_FITTER,  BAY_BOTH_FITTERS,  BAY_FIRST_FITTER};
+
+static struct bay_licences licences(size_t length) {
+    struct bay_licences result = {licence_bytes, length};
+    return result;
+}
+
+static int fitter_told(struct bay_tree tree, uint64_t held, enum bay_status status, size_t job) {
+    struct bay_ticked ticked = bay_tree_tick(first(147), tree, reading(held, 0));
+    return ticked.refusal == BAY_OK && ticked.place == 0 && ticked.status == status && ticked.job == job && ticked.to_read == 0;
+}
+
+/* What both fitters are told of a state by their trees: either's job, or BAY_NO_JOB where he waits. */
+static int team_told(uint64_t held, size_t first_job, size_t second_job) {
+    struct bay_tree trees[2] = {{first_tree, 109}, {second_tree, 106}};
+    return fitter_told(trees[0], held, first_job == BAY_NO_JOB ? BAY_WAITING : BAY_RUNNING, first_job) &&
+           fitter_told(trees[1], held, second_job == BAY_NO_JOB ? BAY_WAITING : BAY_RUNNING, second_job);
+}
+
+/* Both are told the same, which is no job. */
+static int alike(uint64_t held, enum bay_status status) {
+    struct bay_tree trees[2] = {{first_tree, 109}, {second_tree, 106}};
+    return fitter_told(trees[0], held, status, BAY_NO_JOB) && fitter_told(trees[1], held, status, BAY_NO_JOB);
+}
+
+static void teams(void) {
+    struct bay_table table = first(147);
+    CHECK(BAY_FIRST_FITTER == 1 && BAY_SECOND_FITTER == 2 && BAY_BOTH_FITTERS == 3);
+    REFUSED(bay_tree_plan_team(first(146), licences(0), reading(0x20, 0), team_room(0, 0, 0)), BAY_TABLE_CUT, 146);
+    REFUSED(bay_tree_plan_team(table, licences(4), reading(0x20, 0), team_room(0, 0, 0)), BAY_BAD_LICENCES, 0);
+    REFUSED(bay_tree_plan_team(table, licences(6), reading(0x20, 0), team_room(0, 0, 0)), BAY_BAD_LICENCES, 0);
+    static const uint8_t bad_bytes[5] = {1, 2, 3, 4, 0};
+    struct bay_licences bad = {bad_bytes, 5};
+    REFUSED(bay_tree_plan_team(table, bad, reading(0x20, 0), team_room(0, 0, 0)), BAY_BAD_LICENCES, 3);
+    REFUSED(bay_tree_plan_team(table, licences(5), reading(0x20, 0), team_room(0, 0, 0)), BAY_BAD_READING, 0);
+    REFUSED(bay_tree_plan_team(table, licences(5), reading(0x02, 0x08), team_room(0, 0, 0)), BAY_START_UNREAD, 0);
+    REFUSED(bay_tree_plan_team(table, licences(5), reading(0x08, 0), team_room(8, 112, 112)), BAY_LIST_FULL, 8);
+    REFUSED(bay_tree_plan_team(table, licences(5), reading(0x08, 0), team_room(9, 112, 112)), BAY_NO_WAY, 9);
+    REFUSED(bay_tree_plan_team(table, licences(5), reading(0x02, 0), team_room(9, 108, 112)), BAY_TREE_TOO_SHORT, 8);
+    struct bay_team_planned plan = bay_tree_plan_team(table, licences(5), reading(0x02, 0), team_room(9, 112, 105));
+    REFUSED(plan, BAY_TREE_TOO_SHORT, 8);
+    CHECK(plan.entries == 0 && plan.first_bytes == 0 && plan.second_bytes == 0 && !plan.paired);
+    CHECK(first_tree[0] == 0 && second_tree[0] == 0);
+
+    absences[0] = 0xa5;
+    plan = bay_tree_plan_team(table, licences(5), reading(0x02, 0), team_room(8, 109, 106));
+    DONE(plan);
+    CHECK(plan.entries == 8 && plan.first_bytes == 109 && plan.second_bytes == 106 && !plan.paired);
+    CHECK(jobs[0] == BAY_NO_JOB && jobs[7] == 3 && conditions[7] == 0x02 && parents[7] == 4 && depths[7] == 4);
+    CHECK(absences[0] == 0xa5);
+    CHECK(first_tree[108] == 0x4f && first_tree[109] == 0 && second_tree[105] == 0x4f && second_tree[106] == 0);
+    CHECK(team_told(0x02, 3, BAY_NO_JOB) && team_told(0x0a, BAY_NO_JOB, 1) && team_told(0x0c, 4, BAY_NO_JOB));
+    CHECK(alike(0x10, BAY_SUCCESS) && alike(0x08, BAY_FAILURE));
+
+    /* The words of a waiting leaf: a status of its own, and no value. */
+    static const uint8_t waiting[] = {0x46, 0x4f, 0x4f};
+    uint64_t answer[3];
+    CHECK(bay_tick(table.bytes, table.length, waiting, 2, 0x02, 0, answer) == 0 && answer[1] == 4 && answer[2] == 0);
+    struct bay_tree cut = {waiting, 1};
+    REFUSED(bay_tree_tick(table, cut, reading(0x02, 0)), BAY_BAD_TREE, 1);
+    struct bay_tree longer = {waiting, 3};
+    REFUSED(bay_tree_tick(table, longer, reading(0x02, 0)), BAY_BAD_TREE, 2);
+}
+
+static void pair_teams(void) {
+    struct bay_table table = {pair_table_bytes, 163};
+    static uint8_t first_bytes[151], second_bytes[149];
+    struct bay_team_room room = team_room(7, 0, 0);
+    room.first = first_bytes;
+    room.first_bytes = sizeof first_bytes;
+    room.second = second_bytes;
+    room.second_bytes = sizeof second_bytes - 1;
+    REFUSED(bay_tree_plan_team(table, licences(5), reading(0x01, 0), room), BAY_TREE_TOO_SHORT, 7);
+    CHECK(first_bytes[0] == 0 && second_bytes[0] == 0);
+    room.second_bytes = sizeof second_bytes;
+    room.absences_entries = 6;
+    REFUSED(bay_tree_plan_team(table, licences(5), reading(0x01, 0), room), BAY_LIST_FULL, 6);
+    room.absences_entries = 7;
+    struct bay_team_planned plan = bay_tree_plan_team(table, licences(5), reading(0x01, 0), room);
+    DONE(plan);
+    CHECK(plan.entries == 7 && plan.first_bytes == 151 && plan.second_bytes == 149 && plan.paired);
+    CHECK(absences[0] == 0 && conditions[2] == 0x04 && absences[2] == 0x01);
+    struct bay_tree tree = {second_bytes, 149};
+    struct bay_ticked ticked = bay_tree_tick(table, tree, reading(0x05, 0));
+    CHECK(ticked.status == BAY_RUNNING && ticked.job == 1);
+    ticked = bay_tree_tick(table, tree, reading(0x04, 0));
+    CHECK(ticked.status == BAY_WAITING && ticked.job == BAY_NO_JOB && ticked.to_read == 0);
+    ticked = bay_tree_tick(table, tree, reading(0x04, 0x01));
+    CHECK(ticked.status == BAY_UNSETTLED && ticked.to_read == 0x01);
+}
+
 static struct bay_found search(size_t entries, size_t second_masks, struct bay_condition wanted) {
     static const uint64_t listed[] = {0x03, 0x01, 0x04, 0x01, 0x0c};
     static const uint64_t second[] = {0x00, 0x10, 0x00, 0x10, 0x00};
@@ -442,8 +543,10 @@ int main(void) {
     ticks();
     batches();
     cards();
+    teams();
     pair_plans();
     pair_batches();
+    pair_teams();
     printf("%d passed, %d failed\n", passed, failed);
     return failed != 0;
 }

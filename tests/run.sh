@@ -164,7 +164,7 @@ fi
 
 # ---- the examples in C and Python
 
-for program in plan shift stack; do
+for program in plan shift team stack; do
     if $compiler -std=c99 -Wall -Wextra -Werror -O1 -Iinclude examples/c/$program.c "$archive" -o "$work/$program"; then
         ok "examples/c/$program.c is compiled"
     else
@@ -181,6 +181,12 @@ done
 same "examples/c/shift on trailer" examples/c/expected_shift.txt "$work/printed"
 "$work/shift" examples/trailer_one_fact_less/bay.tab 01 00 06 08 >"$work/printed" 2>&1
 same "examples/c/shift on trailer_one_fact_less" examples/c/expected_shift_trailer_one_fact_less.txt "$work/printed"
+"$work/team" examples/trailer/bay.tab 02 22113 >"$work/printed" 2>&1
+same "examples/c/team on trailer" examples/c/expected_team.txt "$work/printed"
+"$work/team" examples/trailer_one_fact_less/bay.tab 01 22113 >"$work/printed" 2>&1
+same "examples/c/team on trailer_one_fact_less" examples/c/expected_team_trailer_one_fact_less.txt "$work/printed"
+"$work/team" examples/trailer/bay.tab 02 22143 >"$work/printed" 2>&1
+same "examples/c/team with a bad licence" examples/c/expected_team_bad_licence.txt "$work/printed"
 (ulimit -s 256 && "$work/stack") >"$work/printed" 2>&1
 same "examples/c/stack on a stack of 256 KiB" examples/c/expected_stack.txt "$work/printed"
 

@@ -91,6 +91,7 @@ fn status_word(status: Status) -> u64 {
         Status::Failure => 1 << 56,
         Status::Running(job) => 2 << 56 | u64::from(job),
         Status::Unsettled(mask) => 3 << 56 | mask,
+        Status::Waiting => 4 << 56,
     }
 }
 

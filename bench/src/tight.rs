@@ -275,7 +275,8 @@ const SUCCESS: u8 = 0;
 const FAILURE: u8 = 1;
 const RUNNING: u8 = 2;
 const UNSETTLED: u8 = 3;
-const REFUSED: u8 = 4;
+const WAITING: u8 = 4;
+const REFUSED: u8 = 5;
 
 /// A walk over tree bytes. Numbers are kept here, so that a node's answer is one byte.
 struct Walk<'a> {
@@ -327,6 +328,7 @@ impl Walk<'_> {
                 Some(one) => (u64::from(*one), 0, 1, u64::from(*one) >= self.jobs),
                 None => return self.refuse(13, at),
             },
+            0x46 => (0, 0, 0, false),
             0x41 | 0x42 => match rest.first_chunk() {
                 Some(two) => {
                     let children = u16::from_le_bytes(*two);
@@ -354,6 +356,8 @@ impl Walk<'_> {
         if command == 0x44 {
             self.value = operand;
             RUNNING
+        } else if command == 0x46 {
+            WAITING
         } else if operand & !(self.held | self.unread) != 0 || second & self.held != 0 {
             FAILURE
         } else if (operand | second) & self.unread != 0 {
@@ -478,6 +482,7 @@ fn tick_by(
         SUCCESS => Status::Success,
         FAILURE => Status::Failure,
         RUNNING => Status::Running(walk.value as u8),
+        WAITING => Status::Waiting,
         _ => Status::Unsettled(walk.value),
     })
 }

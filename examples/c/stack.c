@@ -1,5 +1,5 @@
-/* Ticks the widest and the deepest trees that are legal, plans the longest list, and ticks it for a yard of vehicles. To be run with a stack of
- * BAY_STACK_BYTES:
+/* Ticks the widest and the deepest trees that are legal and the one with the most leaves, plans the longest list, ticks it for a yard of
+ * vehicles, and plans it for two fitters. To be run with a stack of BAY_STACK_BYTES:
  *
  *     cc -std=c99 -Iinclude examples/c/stack.c target/staticlib/libbay.a -o target/stack && (ulimit -s 256; target/stack)
  */
@@ -14,6 +14,7 @@ enum {
     CONDITION = 0x43,
     JOB_LEAF = 0x44,
     PAIR = 0x45,
+    WAITING_LEAF = 0x46,
     END_OF_TREE = 0x4f,
     DEEPEST = 16,
     WIDEST = 4096,
@@ -22,6 +23,7 @@ enum {
 
 static uint8_t table_bytes[BAY_MAX_TABLE_BYTES];
 static uint8_t tree_bytes[BAY_MAX_TREE_BYTES];
+static uint8_t second_tree_bytes[BAY_MAX_TREE_BYTES];
 static size_t tree_length;
 static uint64_t conditions[BAY_MAX_ENTRIES];
 static uint64_t absences[BAY_MAX_PAIR_ENTRIES];
@@ -56,13 +58,17 @@ static void put_pair(uint64_t present, uint64_t absent) {
     put_mask(absent);
 }
 
-static int tick(const char *name, struct bay_table table, uint64_t held) {
-    struct bay_tree tree = {tree_bytes, tree_length};
+static int tick_tree(const char *name, struct bay_table table, struct bay_tree tree, uint64_t held) {
     struct bay_reading reading = {held, 0};
     struct bay_ticked ticked = bay_tree_tick(table, tree, reading);
-    printf("%s: %zu bytes, refusal %d, status %d, job %zu\n", name, tree_length, (int)ticked.refusal, (int)ticked.status,
+    printf("%s: %zu bytes, refusal %d, status %d, job %zu\n", name, tree.length, (int)ticked.refusal, (int)ticked.status,
            ticked.job);
     return ticked.refusal == BAY_OK;
+}
+
+static int tick(const char *name, struct bay_table table, uint64_t held) {
+    struct bay_tree tree = {tree_bytes, tree_length};
+    return tick_tree(name, table, tree, held);
 }
 
 /* Ticks a list for a yard of vehicles, all of which hold the same, and prints what the last is told. */
@@ -81,8 +87,27 @@ static int tick_all(const char *name, struct bay_table table, size_t entries, ui
     return ticked.refusal == BAY_OK;
 }
 
+/* Plans for two fitters, who have every other job each, and ticks both trees. */
+static int plan_team(const char *name, struct bay_table table, struct bay_reading start) {
+    static uint8_t licence_bytes[BAY_MAX_JOBS];
+    for (int i = 0; i < BAY_MAX_JOBS; i++) {
+        licence_bytes[i] = i % 2 == 0 ? BAY_FIRST_FITTER : BAY_SECOND_FITTER;
+    }
+    struct bay_licences licences = {licence_bytes, BAY_MAX_JOBS};
+    struct bay_team_room room = {conditions,           jobs,              parents,
+                                 depths,               BAY_MAX_ENTRIES,   absences,
+                                 BAY_MAX_PAIR_ENTRIES, tree_bytes,        sizeof tree_bytes,
+                                 second_tree_bytes,    sizeof second_tree_bytes};
+    struct bay_team_planned plan = bay_tree_plan_team(table, licences, start, room);
+    printf("%s: refusal %d, %zu entries, %zu and %zu bytes\n", name, (int)plan.refusal, plan.entries, plan.first_bytes,
+           plan.second_bytes);
+    struct bay_tree first = {tree_bytes, plan.first_bytes};
+    struct bay_tree second = {second_tree_bytes, plan.second_bytes};
+    return plan.refusal == BAY_OK && tick_tree("first", table, first, start.held) && tick_tree("second", table, second, start.held);
+}
+
 /* Plans for the whole shift, which lists all that there is room for, then for a start that meets the last entry listed and no earlier one, and
- * ticks the tree of that plan and its list. */
+ * ticks the tree of that plan and its list; then the same for two fitters. */
 static int plan(const char *name, struct bay_table table, uint64_t needed_absent) {
     struct bay_plan_room room = {conditions, jobs, parents, depths, BAY_MAX_ENTRIES, absences, BAY_MAX_PAIR_ENTRIES, tree_bytes,
                                  sizeof tree_bytes};
@@ -98,7 +123,8 @@ static int plan(const char *name, struct bay_table table, uint64_t needed_absent
     printf("%s: refusal %d, %zu entries, %zu bytes, %zu jobs, %" PRIu32 " minutes\n", name, (int)plan.refusal, plan.entries,
            plan.tree_bytes, plan.way_jobs, plan.way_minutes);
     tree_length = plan.tree_bytes;
-    return plan.refusal == BAY_OK && tick("built", table, start.held) && tick_all("yard", table, plan.entries, start.held);
+    return plan.refusal == BAY_OK && tick("built", table, start.held) && tick_all("yard", table, plan.entries, start.held) &&
+           plan_team("team", table, start);
 }
 
 /* Twelve facts to reach, each from a fact of its own, so that the list would have 4,096 entries; the jobs after the first twelve do the same
@@ -169,6 +195,19 @@ int main(void) {
     put_pair(1, 2);
     put(END_OF_TREE);
     ok &= tick("deep and wide with pairs", table, 1);
+
+    /* As many leaves as fit in a tree: 15 rows of 4,096 and one of 4,043. */
+    tree_length = 0;
+    put_inner(FALLBACK, 16);
+    for (int row = 0; row < 16; row++) {
+        int leaves = row < 15 ? WIDEST : 4043;
+        put_inner(SEQUENCE, (unsigned)leaves);
+        for (int i = 0; i < leaves; i++) {
+            put(WAITING_LEAF);
+        }
+    }
+    put(END_OF_TREE);
+    ok &= tick("most leaves", table, 1);
 
     ok &= plan("plan", table, 0);
     uint64_t every_other = 0xaaa000;

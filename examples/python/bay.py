@@ -53,6 +53,7 @@ class Refusal(enum.IntEnum):
     CARD_EXHAUSTED = 18
     JOB_TOO_LONG = 19
     NEEDS_CONTRADICT = 22
+    BAD_LICENCES = 24
     TOO_SHORT = 100
     UNEVEN = 101
     SECONDS_OUT_OF_RANGE = 102
@@ -66,11 +67,20 @@ class JobCommand(enum.IntEnum):
     PAIRED_JOB = 0x21
 
 
+class Licence(enum.IntEnum):
+    """Whose a job is where two fitters work on one vehicle. A job with BOTH_FITTERS is given to the first."""
+
+    FIRST_FITTER = 1
+    SECOND_FITTER = 2
+    BOTH_FITTERS = 3
+
+
 class Status(enum.IntEnum):
     SUCCESS = 0
     FAILURE = 1
     RUNNING = 2
     UNSETTLED = 3
+    WAITING = 4  # running, and no job is named: the other fitter has one to do
 
 
 class Refused(Exception):
@@ -124,6 +134,13 @@ class Plan(NamedTuple):
 class ShiftPlan(NamedTuple):
     entries: Tuple[Entry, ...]
     tree: bytes
+    paired: bool
+
+
+class TeamPlan(NamedTuple):
+    entries: Tuple[Entry, ...]
+    first: bytes  # the first fitter's tree
+    second: bytes
     paired: bool
 
 
@@ -187,6 +204,7 @@ _PARAMETERS = {
     "bay_write_table": [c_size_t] + _SLICE * 6 + [c_uint64] + _SLICE + _ANSWER,
     "bay_plan": _SLICE + _MASKS + _SLICE * 6 + _ANSWER,
     "bay_plan_shift": _SLICE + _SLICE * 6 + _ANSWER,
+    "bay_plan_team": _SLICE * 2 + _MASKS + _SLICE * 7 + _ANSWER,
     "bay_newest_weaker": _SLICE * 2 + _MASKS + _ANSWER,
     "bay_tick": _SLICE * 2 + _MASKS + _ANSWER,
     "bay_tick_all": _SLICE * 8 + _ANSWER,
@@ -266,25 +284,44 @@ class Bay:
 
     # ---- the plan
 
-    def _planned(self, name, words, arguments, most_entries, most_tree_bytes):
+    def _planned(self, name, words, arguments, most_entries, trees):
+        """The entries, what the library answers between their number and the last word, and whether the table is paired."""
         most_entries = _number("most_entries", most_entries, 32)
-        most_tree_bytes = _number("most_tree_bytes", most_tree_bytes, 32)
         # Conditions, second masks, jobs, parents, depths.
         rows = [_row(kind, [0] * most_entries) for kind in (c_uint64, c_uint64, c_uint8, c_uint16, c_uint16)]
-        tree = _row(c_uint8, bytes(most_tree_bytes))
-        lent = [part for row in rows + [tree] for part in row]
-        entries, length, *more, paired = self._call(name, words, *arguments, *lent)
+        lent = [part for row in rows + trees for part in row]
+        entries, *more, paired = self._call(name, words, *arguments, *lent)
         listed = enumerate(zip(*(row[:entries] for row, _ in rows)))
         # A table that is not paired leaves the second masks as they are lent: 0.
         listed = tuple(Entry(condition, job if i else None, parent, depth, absent) for i, (condition, absent, job, parent, depth) in listed)
-        return (listed, bytes(tree[0][:length]), *more, bool(paired))
+        return listed, more, bool(paired)
+
+    @staticmethod
+    def _room(name, most_bytes):
+        """Room for a tree."""
+        return _row(c_uint8, bytes(_number(name, most_bytes, 32)))
 
     def plan(self, table, start, most_entries=MAX_ENTRIES, most_tree_bytes=MAX_TREE_BYTES) -> Plan:
         arguments = (*_bytes("table", table), *_masks("start", start))
-        return Plan(*self._planned("bay_plan", 6, arguments, most_entries, most_tree_bytes))
+        tree = self._room("most_tree_bytes", most_tree_bytes)
+        entries, (length, *way), paired = self._planned("bay_plan", 6, arguments, most_entries, [tree])
+        return Plan(entries, bytes(tree[0][:length]), *way, paired)
 
     def plan_shift(self, table, most_entries=MAX_ENTRIES, most_tree_bytes=MAX_TREE_BYTES) -> ShiftPlan:
-        return ShiftPlan(*self._planned("bay_plan_shift", 4, _bytes("table", table), most_entries, most_tree_bytes))
+        tree = self._room("most_tree_bytes", most_tree_bytes)
+        entries, (length,), paired = self._planned("bay_plan_shift", 4, _bytes("table", table), most_entries, [tree])
+        return ShiftPlan(entries, bytes(tree[0][:length]), paired)
+
+    def plan_team(
+        self, table, licences, start, most_entries=MAX_ENTRIES, most_first_bytes=MAX_TREE_BYTES, most_second_bytes=MAX_TREE_BYTES
+    ) -> TeamPlan:
+        """A plan for two fitters, with a licence for each job, of Licence. Each fitter has a tree of his own: where one names a job, the other
+        waits."""
+        licences = _row(c_uint8, [_number(f"licence {i}", licence, 8) for i, licence in enumerate(licences)])
+        arguments = (*_bytes("table", table), *licences, *_masks("start", start))
+        trees = [self._room("most_first_bytes", most_first_bytes), self._room("most_second_bytes", most_second_bytes)]
+        entries, lengths, paired = self._planned("bay_plan_team", 5, arguments, most_entries, trees)
+        return TeamPlan(entries, *(bytes(tree[:length]) for (tree, _), length in zip(trees, lengths)), paired)
 
     def newest_weaker(self, listed, condition, absences=(), absent=0):
         """The newest entry of listed conditions that is a part of a condition, or None. Entry i wants the facts of listed[i] held and those of

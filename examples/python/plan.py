@@ -1,5 +1,5 @@
-"""Plans the work on a trailer, follows vehicles with the one tree, and looks over a yard of them in one call; then the same with one fact less,
-"trailer off" as the absence of "trailer on".
+"""Plans the work on a trailer, follows vehicles with the one tree, looks over a yard of them in one call, and has two fitters work on one of them;
+then the same with one fact less, "trailer off" as the absence of "trailer on".
 
     python3 examples/python/plan.py target/libbay.so
 
@@ -9,9 +9,11 @@ bay.py says how the shared object is made.
 import sys
 from typing import List, NamedTuple
 
-from bay import Bay, Job, JobCommand, Reading, Refused, Status
+from bay import Bay, Job, JobCommand, Licence, Reading, Refused, Status
 
 JOB_NAMES = ["couple", "uncouple", "measure unloaded", "measure loaded", "seal"]
+# Who may do each: the first fitter measures, the second couples and uncouples, and both may seal.
+LICENCES = [Licence.SECOND_FITTER, Licence.SECOND_FITTER, Licence.FIRST_FITTER, Licence.FIRST_FITTER, Licence.BOTH_FITTERS]
 
 
 class Workshop(NamedTuple):
@@ -98,6 +100,28 @@ def look_over(bay, workshop, table, plan, yard):
         print(f"  held {workshop.named(reading.held)}; unread {workshop.named(reading.unread)}: {told}")
 
 
+def told(tick):
+    """What a fitter is told in a state that his team's list covers."""
+    if tick.status == Status.RUNNING:
+        return f"does {JOB_NAMES[tick.job]}"
+    return "waits" if tick.status == Status.WAITING else "is done"
+
+
+def work_as_team(bay, workshop, table, held):
+    """Two fitters at one vehicle: both tick their trees on the same state, one does the job that his tree names, and the other waits."""
+    plan = bay.plan_team(table, LICENCES, Reading(held))
+    print(f"team: {len(plan.entries)} entries, {len(plan.first)} and {len(plan.second)} tree bytes")
+    while True:
+        ticks = [bay.tick(table, tree, Reading(held)) for tree in (plan.first, plan.second)]
+        first, second = (told(tick) for tick in ticks)
+        print(f"  held {workshop.named(held)}: first {first}, second {second}")
+        named = [tick.job for tick in ticks if tick.status == Status.RUNNING]
+        if not named:
+            break
+        job = bay.read_job(table, named[0])
+        held = (held | job.adds) & ~job.deletes
+
+
 def main():
     bay = Bay(sys.argv[1] if len(sys.argv) > 1 else "target/libbay.so")
     table, plan = planned(bay, TRAILER, 0x02)
@@ -105,6 +129,7 @@ def main():
     follow(bay, TRAILER, table, plan.tree, Reading(0x02, 0x08), 0x0A)
     follow(bay, TRAILER, table, plan.tree, Reading(0x08, 0x00), 0x08)
     look_over(bay, TRAILER, table, plan, [Reading(0x10), Reading(0x0C), Reading(0x02, 0x08), Reading(0x0A)])
+    work_as_team(bay, TRAILER, table, 0x02)
 
     for name, call in [
         ("a table that is cut", lambda: bay.read_table(table[:100])),
@@ -112,6 +137,7 @@ def main():
         ("a start from which there is no way", lambda: bay.plan(table, Reading(0x08))),
         ("a tree that is cut", lambda: bay.tick(table, plan.tree[:50], Reading(0x02))),
         ("a yard whose second reading is bad", lambda: bay.tick_all(table, plan.entries, [Reading(0x02), Reading(0x20)])),
+        ("a team whose fourth licence is none", lambda: bay.plan_team(table, [2, 2, 1, 4, 3], Reading(0x02))),
     ]:
         try:
             call()
@@ -122,6 +148,7 @@ def main():
     table, plan = planned(bay, ONE_FACT_LESS, 0x01)
     follow(bay, ONE_FACT_LESS, table, plan.tree, Reading(0x04, 0x01), 0x04)
     look_over(bay, ONE_FACT_LESS, table, plan, [Reading(0x04), Reading(0x04, 0x01), Reading(0x05), Reading(0x00)])
+    work_as_team(bay, ONE_FACT_LESS, table, 0x01)
 
 
 if __name__ == "__main__":

@@ -12,7 +12,24 @@ import unittest
 from ctypes import POINTER, c_size_t, c_uint16, c_uint32, c_uint64, c_void_p
 
 import bay as module
-from bay import BatchTick, Bay, Card, Entry, Header, Job, JobCommand, Plan, Reading, Refusal, Refused, ShiftPlan, Status, Tick
+from bay import (
+    BatchTick,
+    Bay,
+    Card,
+    Entry,
+    Header,
+    Job,
+    JobCommand,
+    Licence,
+    Plan,
+    Reading,
+    Refusal,
+    Refused,
+    ShiftPlan,
+    Status,
+    TeamPlan,
+    Tick,
+)
 
 JOBS = [
     Job(0x01, 0x02, 0x01, 300),
@@ -29,6 +46,8 @@ PAIR_JOBS = [
     Job(0x01, 0x04, 0x00, 600),
     Job(0x06, 0x08, 0x00, 150),
 ]
+# The first fitter measures, the second couples and uncouples, and both may seal.
+LICENCES = [Licence.SECOND_FITTER] * 2 + [Licence.FIRST_FITTER] * 2 + [Licence.BOTH_FITTERS]
 LIBRARY = "target/libbay.so"
 
 
@@ -67,6 +86,7 @@ class Ranges(unittest.TestCase):
                 yield lambda x, name=name: bay.write_table(1, [job, job._replace(**{name: x})], 0)
             for reading in (lambda x: Reading(x, 0), lambda x: Reading(0, x)):
                 yield lambda x, reading=reading: bay.plan(table, reading(x))
+                yield lambda x, reading=reading: bay.plan_team(table, [], reading(x))
                 yield lambda x, reading=reading: bay.tick(table, b"", reading(x))
                 yield lambda x, reading=reading: bay.tick_all(table, [entry], [Reading(), reading(x)])
                 yield lambda x, reading=reading: bay.open(table, reading(x))
@@ -82,12 +102,15 @@ class Ranges(unittest.TestCase):
         if bits == 32:
             yield lambda x: bay.plan(table, Reading(), most_entries=x)
             yield lambda x: bay.plan_shift(table, most_tree_bytes=x)
+            for name in ("most_entries", "most_first_bytes", "most_second_bytes"):
+                yield lambda x, name=name: bay.plan_team(table, [], Reading(), **{name: x})
             for name in ("taken", "planned"):
                 yield lambda x, name=name: bay.report(table, card._replace(**{name: x}), 0, 0)
                 yield lambda x, name=name: bay.lateness(card._replace(**{name: x}))
         if bits == 8:
             yield lambda x: bay.write_table(1, [job, job._replace(command=x)], 0)
             yield lambda x: bay.tick_all(table, [entry, entry._replace(job=x)], [])
+            yield lambda x: bay.plan_team(table, [1, x], Reading())
         if bits == 16:
             yield lambda x: bay.write_table(1, [job, job._replace(seconds=x)], 0)
             yield lambda x: bay.report(table, card._replace(reports=x), 0, 0)
@@ -114,6 +137,7 @@ class Ranges(unittest.TestCase):
                 lambda x: bay.read_job(x, 0),
                 lambda x: bay.plan(x, Reading()),
                 lambda x: bay.plan_shift(x),
+                lambda x: bay.plan_team(x, [], Reading()),
                 lambda x: bay.tick(x, b"", Reading()),
                 lambda x: bay.tick(b"", x, Reading()),
                 lambda x: bay.tick_all(x, [], []),
@@ -143,6 +167,9 @@ class Interface(unittest.TestCase):
 
     def test_job_commands(self):
         self.assertEqual({command.name: command.value for command in JobCommand}, self.names("bay_job_command"))
+
+    def test_licences(self):
+        self.assertEqual({licence.name: licence.value for licence in Licence}, self.names("bay_licence"))
 
     def test_statuses(self):
         names = self.names("bay_status")
@@ -226,6 +253,49 @@ class Calls(Library):
         self.refused(Refusal.LIST_FULL, 0, self.bay.plan, self.table, Reading(0x10), most_entries=0)
         self.refused(Refusal.TREE_TOO_SHORT, 8, self.bay.plan, self.table, Reading(0x02), most_tree_bytes=110)
         self.refused(Refusal.LIST_FULL, 8, self.bay.plan_shift, self.table, most_entries=8)
+
+    def told(self, plan, reading):
+        """What both fitters are told."""
+        return tuple(self.bay.tick(self.table, tree, reading) for tree in (plan.first, plan.second))
+
+    def test_teams(self):
+        plan = self.bay.plan_team(self.table, LICENCES, Reading(held=0x02))
+        self.assertIsInstance(plan, TeamPlan)
+        self.assertEqual((len(plan.entries), len(plan.first), len(plan.second), plan.paired), (8, 109, 106, False))
+        self.assertEqual(plan.entries, self.bay.plan(self.table, Reading(0x02)).entries)
+        waiting = Tick(Status.WAITING)
+        self.assertEqual((waiting.job, waiting.to_read), (None, 0))
+        for reading, told in [
+            (Reading(0x02), (Tick(Status.RUNNING, job=3), waiting)),
+            (Reading(0x0A), (waiting, Tick(Status.RUNNING, job=1))),
+            (Reading(0x09), (Tick(Status.RUNNING, job=2), waiting)),
+            (Reading(0x0D), (Tick(Status.RUNNING, job=4), waiting)),
+            (Reading(0x02, 0x08), (Tick(Status.UNSETTLED, to_read=0x08),) * 2),
+            (Reading(0x10), (Tick(Status.SUCCESS),) * 2),
+            (Reading(0x08), (Tick(Status.FAILURE),) * 2),
+        ]:
+            self.assertEqual(self.told(plan, reading), told)
+        # One who has every job has the plan's tree.
+        tree = self.bay.plan(self.table, Reading(0x02)).tree
+        self.assertEqual(self.bay.plan_team(self.table, [1, 3, 1, 3, 1], Reading(0x02)).first, tree)
+        self.assertEqual(self.bay.plan_team(self.table, bytes([2] * 5), Reading(0x02)).second, tree)
+        none = self.bay.write_table(1, [], 0x01)
+        self.assertEqual(len(self.bay.plan_team(none, [], Reading(0x01)).second), 13)
+
+    def test_refused_teams(self):
+        plan, start = self.bay.plan_team, Reading(0x02)
+        self.refused(Refusal.TABLE_CUT, 146, plan, self.table[:146], [], Reading(0x20))
+        for row in ([], LICENCES[:4], LICENCES + [1], [9] * 4):
+            self.refused(Refusal.BAD_LICENCES, 0, plan, self.table, row, Reading(0x20))
+        self.refused(Refusal.BAD_LICENCES, 3, plan, self.table, [1, 2, 3, 4, 0], Reading(0x02, 0x08))
+        self.refused(Refusal.BAD_LICENCES, 0, plan, self.table, [0, 1, 1, 1, 255], start, most_entries=0)
+        self.refused(Refusal.BAD_READING, 0, plan, self.table, LICENCES, Reading(0x20))
+        self.refused(Refusal.START_UNREAD, 0, plan, self.table, LICENCES, Reading(0x02, 0x08))
+        self.refused(Refusal.LIST_FULL, 7, plan, self.table, LICENCES, start, most_entries=7)
+        self.refused(Refusal.NO_WAY, 9, plan, self.table, LICENCES, Reading(0x08))
+        self.refused(Refusal.TREE_TOO_SHORT, 8, plan, self.table, LICENCES, start, most_first_bytes=108)
+        self.refused(Refusal.TREE_TOO_SHORT, 8, plan, self.table, LICENCES, start, most_second_bytes=105)
+        self.assertEqual(len(plan(self.table, LICENCES, start, 8, 109, 106).first), 109)
 
     def test_searches(self):
         listed = [0x03, 0x01, 0x04, 0x01, 0x0C]
@@ -336,6 +406,14 @@ class Pairs(Library):
             (Reading(0x08, 0x07), Tick(Status.SUCCESS)),
         ]:
             self.assertEqual(self.bay.tick(self.pairs, plan.tree, reading), tick)
+
+    def test_pair_teams(self):
+        plan = self.bay.plan_team(self.pairs, LICENCES, Reading(held=0x01))
+        self.assertEqual((len(plan.entries), len(plan.first), len(plan.second), plan.paired), (7, 151, 149, True))
+        self.assertEqual(plan.entries, self.bay.plan(self.pairs, Reading(0x01)).entries)
+        self.assertEqual(self.bay.tick(self.pairs, plan.second, Reading(0x05)), Tick(Status.RUNNING, job=1))
+        self.assertEqual(self.bay.tick(self.pairs, plan.first, Reading(0x05)), Tick(Status.WAITING))
+        self.refused(Refusal.TREE_TOO_SHORT, 7, self.bay.plan_team, self.pairs, LICENCES, Reading(0x01), most_second_bytes=148)
 
     def test_pair_batches(self):
         entries = self.bay.plan(self.pairs, Reading(0x01)).entries

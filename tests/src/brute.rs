@@ -79,6 +79,69 @@ pub fn check_runs(
     }
 }
 
+/// The jobs of the run of two fitters' trees from a state, each with who does it, and whether it ends with Success for both: it "ticks both on the same
+/// state until neither names a job" (document 02, W12). A step is due where one of them is given a job and the other waits; any other two answers end
+/// the run, and so does a job that is not applicable.
+pub fn joint_run(
+    table: &Table,
+    state: u64,
+    tick: impl Fn(Fitter, u64) -> Result<Ticked, Refusal>,
+) -> (Vec<(Fitter, u8)>, bool) {
+    let mut jobs = Vec::new();
+    let mut state = state;
+    loop {
+        let told = FITTERS.map(|fitter| tick(fitter, state).map(|ticked| ticked.status));
+        let (fitter, number) = match told {
+            [Ok(Status::Running(number)), Ok(Status::Waiting)] => (Fitter::First, number),
+            [Ok(Status::Waiting), Ok(Status::Running(number))] => (Fitter::Second, number),
+            _ => return (jobs, told == [Ok(Status::Success); 2]),
+        };
+        let job = &table.jobs[usize::from(number)];
+        if !job.is_applicable(state, 0) {
+            return (jobs, false);
+        }
+        jobs.push((fitter, number));
+        state = job.finish(state);
+        assert!(jobs.len() <= MOST_ENTRIES, "the run does not end");
+    }
+}
+
+/// Demand 3 on the trees of two fitters (document 02, W12): "In every fully read state the team's list covers short of the goal, exactly one of them is
+/// given a job and the other waits. Done in turn, these jobs reach the goal in the team's fewest". Each job is its owner's, they are those of the first
+/// entry met along its parents, and in a state that is not covered both trees fail.
+pub fn check_joint_runs(
+    table: &Table,
+    list: &[Entry],
+    licences: &[u8],
+    distance: &[Option<usize>],
+    tick: impl Fn(Fitter, u64) -> Result<Ticked, Refusal>,
+) {
+    for state in states(table) {
+        let (jobs, success) = joint_run(table, state, &tick);
+        match first_met(list, state) {
+            Some(first) => {
+                let way = way_from(list, first).into_iter().map(|job| (owner(licences[usize::from(job)]), job));
+                assert!(success, "the run from {state:x} does not reach the goal");
+                assert_eq!(Some(jobs.len()), distance[state as usize], "jobs of the run from {state:x}");
+                assert_eq!(jobs.len(), usize::from(list[first].depth));
+                assert_eq!(jobs, way.collect::<Vec<_>>(), "the way from {state:x}");
+            }
+            None => {
+                let told = FITTERS.map(|fitter| tick(fitter, state).map(|ticked| ticked.status));
+                assert_eq!(told, [Ok(Status::Failure); 2], "both are told of {state:x}");
+            }
+        }
+    }
+}
+
+/// What a fitter is told where the team's tree gives this answer: of another's job that he waits.
+pub fn told_to(fitter: Fitter, licences: &[u8], of_the_team: Status) -> Status {
+    match of_the_team {
+        Status::Running(job) if owner(licences[usize::from(job)]) != fitter => Status::Waiting,
+        other => other,
+    }
+}
+
 /// Document 02, W2: "A state then meets some condition of the tree exactly when a sequence of jobs leads from it to the goal."
 pub fn check_cover(table: &Table, list: &[Entry], distance: &[Option<usize>]) {
     for state in states(table) {

@@ -20,10 +20,12 @@ pub const CONDITION: u8 = 0x43;
 pub const JOB_LEAF: u8 = 0x44;
 /// A condition "with both masks" (document 02, W10).
 pub const PAIR: u8 = 0x45;
+/// "a waiting leaf 0x46, without operand" (document 02, W12).
+pub const WAITING_LEAF: u8 = 0x46;
 pub const END_OF_TREE: u8 = 0x4f;
 
 /// "One table gives the operand width of every command."
-pub const WIDTHS: [(u8, usize); 11] = [
+pub const WIDTHS: [(u8, usize); 12] = [
     (FACTS, 1),
     (JOB, 26),
     (PAIRED_JOB, 34),
@@ -34,6 +36,7 @@ pub const WIDTHS: [(u8, usize); 11] = [
     (CONDITION, 8),
     (JOB_LEAF, 1),
     (PAIR, 16),
+    (WAITING_LEAF, 0),
     (END_OF_TREE, 0),
 ];
 
@@ -476,8 +479,8 @@ pub fn expand(table: &Table, start: Option<u64>, capacity: usize) -> (Vec<Entry>
 }
 
 /// The tree of a table's list: FALLBACK n; CONDITION of entry 0; for each later entry SEQUENCE 2, CONDITION, JOB; END. A condition is a 0x45
-/// "once the table has a 0x21" (document 02, W10).
-pub fn tree_bytes(table: &Table, list: &[Entry]) -> Vec<u8> {
+/// "once the table has a 0x21" (document 02, W10). Of a job that the tree does not name, "a waiting leaf" stands in its place (W12).
+fn tree_naming(table: &Table, list: &[Entry], names: impl Fn(u8) -> bool) -> Vec<u8> {
     let paired = table.is_paired();
     let mut bytes = vec![FALLBACK];
     bytes.extend((list.len() as u16).to_le_bytes());
@@ -491,12 +494,19 @@ pub fn tree_bytes(table: &Table, list: &[Entry]) -> Vec<u8> {
         if paired {
             bytes.extend(entry.condition.absent.to_le_bytes());
         }
-        if i > 0 {
+        if i > 0 && names(entry.job) {
             bytes.extend([JOB_LEAF, entry.job]);
+        } else if i > 0 {
+            bytes.push(WAITING_LEAF);
         }
     }
     bytes.push(END_OF_TREE);
     bytes
+}
+
+/// The tree that names every job: document 01's.
+pub fn tree_bytes(table: &Table, list: &[Entry]) -> Vec<u8> {
+    tree_naming(table, list, |_| true)
 }
 
 /// The jobs "from the covering entry along parents to entry 0", in the order in which they are worked.
@@ -577,12 +587,23 @@ impl Lent {
 
     /// The tree's bytes, or stop 12.
     fn store_tree(&mut self, table: &Table, list: &[Entry]) -> Result<usize, Refusal> {
-        let tree = tree_bytes(table, list);
-        if self.tree.len() < tree.len() {
-            return refuse(12, list.len());
+        let [bytes] = store_trees(list, [tree_bytes(table, list)], [&mut self.tree])?;
+        Ok(bytes)
+    }
+
+    /// The list that a start ends, stored; or stops 8 to 11.
+    fn store_list_for(&mut self, table: &Table, held: u64, unread: u64) -> Result<Vec<Entry>, Refusal> {
+        judge_reading(table, held, unread)?;
+        if unread != 0 {
+            return refuse(9, 0);
         }
-        self.tree[..tree.len()].copy_from_slice(&tree);
-        Ok(tree.len())
+        let (list, ending) = expand(table, Some(held), self.capacity(table));
+        self.store(table, &list);
+        match ending {
+            Ending::Full => refuse(10, list.len()),
+            Ending::Exhausted => refuse(11, list.len()),
+            Ending::Covered => Ok(list),
+        }
     }
 
     /// "the shortest of the four lent list tables", and with a 0x21 of the fifth, "which the capacity covers".
@@ -608,6 +629,22 @@ impl Lent {
     }
 }
 
+/// Writes a list's trees, each into the slice lent for it, and gives their bytes; stop 12 where one slice is too short, "judged by each tree's own
+/// bytes, for both before either is written" (document 02, W12).
+fn store_trees<const N: usize>(
+    list: &[Entry],
+    trees: [Vec<u8>; N],
+    lent: [&mut Vec<u8>; N],
+) -> Result<[usize; N], Refusal> {
+    if lent.iter().zip(&trees).any(|(lent, tree)| lent.len() < tree.len()) {
+        return refuse(12, list.len());
+    }
+    for (lent, tree) in lent.into_iter().zip(&trees) {
+        lent[..tree.len()].copy_from_slice(tree);
+    }
+    Ok(trees.map(|tree| tree.len()))
+}
+
 #[derive(Clone, Copy, Debug, PartialEq, Eq)]
 pub struct Planned {
     pub entries: usize,
@@ -629,17 +666,7 @@ pub struct ShiftPlanned {
 /// Plans from a start: the table's stops, then 8 to 12.
 pub fn plan(table: &[u8], held: u64, unread: u64, lent: &mut Lent) -> Result<Planned, Refusal> {
     let table = read_table(table)?;
-    judge_reading(&table, held, unread)?;
-    if unread != 0 {
-        return refuse(9, 0);
-    }
-    let (list, ending) = expand(&table, Some(held), lent.capacity(&table));
-    lent.store(&table, &list);
-    match ending {
-        Ending::Full => return refuse(10, list.len()),
-        Ending::Exhausted => return refuse(11, list.len()),
-        Ending::Covered => {}
-    }
+    let list = lent.store_list_for(&table, held, unread)?;
     let tree_bytes = lent.store_tree(&table, &list)?;
     let way = named(&table, &read_tree(&lent.tree[..tree_bytes], &table)?, held);
     Ok(Planned {
@@ -663,6 +690,87 @@ pub fn plan_shift(table: &[u8], lent: &mut Lent) -> Result<ShiftPlanned, Refusal
     Ok(ShiftPlanned { entries: list.len(), tree_bytes, paired: table.is_paired() })
 }
 
+// ---- the plan for two fitters (document 02, W12)
+
+#[derive(Clone, Copy, Debug, PartialEq, Eq)]
+pub enum Fitter {
+    First,
+    Second,
+}
+
+pub const FITTERS: [Fitter; 2] = [Fitter::First, Fitter::Second];
+
+/// "1 first fitter, 2 second, 3 both"
+pub const LICENCES: [u8; 3] = [1, 2, 3];
+
+/// Whose a job with this licence is: "Jobs with 3 belong to the first fitter."
+pub fn owner(licence: u8) -> Fitter {
+    match licence {
+        1 | 3 => Fitter::First,
+        2 => Fitter::Second,
+        _ => panic!("{licence} is no licence"),
+    }
+}
+
+/// Stop 24: "A row of another length than the jobs is refused as 24 with place 0, then a licence of 0 or above 3 as 24 with its index".
+fn judge_licences(table: &Table, licences: &[u8]) -> Result<(), Refusal> {
+    if licences.len() != table.jobs.len() {
+        return refuse(24, 0);
+    }
+    match licences.iter().position(|licence| !LICENCES.contains(licence)) {
+        Some(index) => refuse(24, index),
+        None => Ok(()),
+    }
+}
+
+/// "a tree of his own in which the other's jobs are a waiting leaf"
+pub fn fitter_tree_bytes(table: &Table, list: &[Entry], licences: &[u8], fitter: Fitter) -> Vec<u8> {
+    tree_naming(table, list, |job| owner(licences[usize::from(job)]) == fitter)
+}
+
+/// The slices that a plan for two fitters is lent: the list tables, and a tree for each.
+#[derive(Clone, Debug, Default, PartialEq, Eq)]
+pub struct TeamLent {
+    /// Without a tree of its own.
+    pub lists: Lent,
+    /// In the order of `FITTERS`.
+    pub trees: [Vec<u8>; 2],
+}
+
+impl TeamLent {
+    /// Slices of these lengths, each filled with a pattern; the second fitter's tree comes last.
+    pub fn filled(lengths: Lengths, second: usize, pattern: u64) -> TeamLent {
+        let mut lists = Lent::filled(lengths, pattern);
+        let first = std::mem::take(&mut lists.tree);
+        TeamLent { lists, trees: [first, Lent::filled([0, 0, 0, 0, 0, second], !pattern).tree] }
+    }
+}
+
+/// What a plan for two fitters tells.
+#[derive(Clone, Copy, Debug, PartialEq, Eq)]
+pub struct TeamPlanned {
+    pub entries: usize,
+    /// In the order of `FITTERS`.
+    pub tree_bytes: [usize; 2],
+    pub paired: bool,
+}
+
+/// "One list is planned for the team, and each fitter has a tree of his own": the table's stops, then 24, then 8 to 12.
+pub fn plan_team(
+    table: &[u8],
+    licences: &[u8],
+    held: u64,
+    unread: u64,
+    lent: &mut TeamLent,
+) -> Result<TeamPlanned, Refusal> {
+    let table = read_table(table)?;
+    judge_licences(&table, licences)?;
+    let list = lent.lists.store_list_for(&table, held, unread)?;
+    let trees = FITTERS.map(|fitter| fitter_tree_bytes(&table, &list, licences, fitter));
+    let tree_bytes = store_trees(&list, trees, lent.trees.each_mut())?;
+    Ok(TeamPlanned { entries: list.len(), tree_bytes, paired: table.is_paired() })
+}
+
 // ---- the tree
 
 #[derive(Clone, Copy, Debug, PartialEq, Eq)]
@@ -677,6 +785,7 @@ pub enum Node {
     Inner { kind: Kind, children: Vec<Node> },
     Condition { condition: Condition, offset: usize },
     Job { number: u8, offset: usize },
+    Waiting { offset: usize },
 }
 
 /// Reads the node at `*at` and moves `*at` past it.
@@ -686,7 +795,7 @@ fn read_node(bytes: &[u8], table: &Table, at: &mut usize, depth: usize) -> Resul
     let Some(&command) = bytes.get(offset) else {
         return refuse(13, bytes.len());
     };
-    if ![FALLBACK, SEQUENCE, CONDITION, JOB_LEAF, PAIR].contains(&command) {
+    if ![FALLBACK, SEQUENCE, CONDITION, JOB_LEAF, PAIR, WAITING_LEAF].contains(&command) {
         return refuse(13, offset);
     }
     let end = offset + 1 + width_of(command);
@@ -720,6 +829,7 @@ fn read_node(bytes: &[u8], table: &Table, at: &mut usize, depth: usize) -> Resul
             }
             Ok(Node::Job { number, offset })
         }
+        WAITING_LEAF => Ok(Node::Waiting { offset }),
         _ => {
             let kind = if command == FALLBACK { Kind::Fallback } else { Kind::Sequence };
             let mut children = Vec::new();
@@ -754,6 +864,8 @@ pub enum Status {
     Failure,
     Running(u8),
     Unsettled(u64),
+    /// Running without a job: the leaf that "answers Running and names no job" (document 02, W12).
+    Waiting,
 }
 
 /// An answer and the offset of the leaf that decided it.
@@ -768,6 +880,7 @@ pub fn tick_node(node: &Node, held: u64, unread: u64) -> Ticked {
     match node {
         Node::Condition { condition, offset } => Ticked { status: condition.status(held, unread), leaf: *offset },
         Node::Job { number, offset } => Ticked { status: Status::Running(*number), leaf: *offset },
+        Node::Waiting { offset } => Ticked { status: Status::Waiting, leaf: *offset },
         Node::Inner { kind, children } => {
             let goes_on = match kind {
                 Kind::Sequence => Status::Success,

@@ -307,18 +307,30 @@ fn plain_tables_leave_second_masks_alone() {
     }
 }
 
-/// Small tables by brute force, over all states and all readings: demand 3, no way, the whole shift's cover, and Unsettled.
+/// Small tables by brute force, over all states and all readings: demand 3, of two fitters too, no way, the whole shift's cover, and Unsettled.
 fn by_brute_force(kind: Jobs, cases: u64) {
     for index in 0..cases {
         let random = &mut Random::for_case(1, "engine", index);
         let table = make::small_table(random, index, kind);
         let distance = brute::distances(&table);
+        let licences = make::licences(random, table.jobs.len());
         let check = |list: &[Entry]| {
             let root = read_tree(&tree_bytes(&table, list), &table).unwrap();
             brute::check_runs(&table, list, &distance, |state| Ok(tick_node(&root, state, 0)));
+            let fitters = FITTERS.map(|fitter| fitter_tree_bytes(&table, list, &licences, fitter));
+            let roots = fitters.map(|tree| read_tree(&tree, &table).unwrap());
+            brute::check_joint_runs(&table, list, &licences, &distance, |fitter, state| {
+                Ok(tick_node(&roots[fitter as usize], state, 0))
+            });
             for unread in 0..1 << table.facts {
                 let held = random_part(index ^ unread, all_facts(table.facts) & !unread);
                 brute::check_unsettled(held, unread, |held, unread| tick_node(&root, held, unread));
+                let of_the_team = tick_node(&root, held, unread).status;
+                for fitter in FITTERS {
+                    let tick = |held, unread| tick_node(&roots[fitter as usize], held, unread);
+                    assert_eq!(tick(held, unread).status, brute::told_to(fitter, &licences, of_the_team));
+                    brute::check_unsettled(held, unread, tick);
+                }
             }
         };
         let (whole, ending) = expand(&table, None, table.most_entries());
@@ -355,6 +367,148 @@ fn pair_tables_by_brute_force() {
     by_brute_force(Jobs::Paired, 400);
 }
 
+/// Lent list tables of so many entries, and trees of so many bytes.
+fn team_lent(capacity: usize, trees: [usize; 2]) -> TeamLent {
+    TeamLent::filled([capacity, capacity, capacity, capacity, capacity, trees[0]], trees[1], 7)
+}
+
+/// The trailer's plan for two fitters from a start, into as much as it can use.
+fn trailer_team(licences: &[u8], held: u64) -> (TeamPlanned, TeamLent) {
+    let mut lent = team_lent(MOST_ENTRIES, [MOST_TREE_BYTES; 2]);
+    (plan_team(&trailer::table(), licences, held, 0, &mut lent).unwrap(), lent)
+}
+
+/// Document 02, W12: "each fitter has a tree of his own in which the other's jobs are a waiting leaf 0x46, without operand".
+#[test]
+fn trees_of_two_fitters() {
+    let (planned, lent) = trailer_team(&trailer::LICENCES, 0x02);
+    // The list's jobs are 4, 2, 3, 1, 3, 0, 3: two of them wait in the first tree, and five in the second.
+    assert_eq!(planned, TeamPlanned { entries: 8, tree_bytes: [109, 106], paired: false });
+    assert_eq!(lent.lists.list(false, 8), trailer_list());
+    let entry = |mask: u64, leaf: &[u8]| [make::inner(SEQUENCE, 2), make::condition(mask), leaf.to_vec()].concat();
+    let tree = |leaves: [&[u8]; 7]| {
+        let masks = [0x0c, 0x09, 0x06, 0x0a, 0x03, 0x05, 0x02];
+        let entries: Vec<u8> = masks.into_iter().zip(leaves).flat_map(|(mask, leaf)| entry(mask, leaf)).collect();
+        [make::inner(FALLBACK, 8), make::condition(0x10), entries, vec![END_OF_TREE]].concat()
+    };
+    let waiting = &[0x46][..];
+    let of_first = tree([&[0x44, 4], &[0x44, 2], &[0x44, 3], waiting, &[0x44, 3], waiting, &[0x44, 3]]);
+    let of_second = tree([waiting, waiting, waiting, &[0x44, 1], waiting, &[0x44, 0], waiting]);
+    assert_eq!(lent.trees[0][..109], of_first);
+    assert_eq!(lent.trees[1][..106], of_second);
+    // Nothing past them is written.
+    let unwritten = team_lent(MOST_ENTRIES, [MOST_TREE_BYTES; 2]);
+    assert_eq!(lent.trees[0][109..], unwritten.trees[0][109..]);
+    assert_eq!(lent.trees[1][106..], unwritten.trees[1][106..]);
+    // Where one has every job, his tree is the plan's; "Jobs with 3 belong to the first fitter."
+    let whole = tree_bytes(&read_table(&trailer::table()).unwrap(), &trailer_list());
+    for (licence, owner) in [(1, 0), (2, 1), (3, 0)] {
+        let (planned, lent) = trailer_team(&[licence; 5], 0x02);
+        assert_eq!((planned.tree_bytes[owner], planned.tree_bytes[1 - owner]), (111, 104));
+        assert_eq!(lent.trees[owner][..111], whole);
+    }
+    // A start that holds the goal has one entry and no leaf of a job.
+    assert_eq!(trailer_team(&trailer::LICENCES, 0x10).0.tree_bytes, [13, 13]);
+    // With pairs the jobs are 4, 2, 3, 1, 0, 3.
+    let mut lent = team_lent(7, [151, 149]);
+    let planned = plan_team(&one_fact_less::table(), &trailer::LICENCES, 0x01, 0, &mut lent).unwrap();
+    assert_eq!(planned, TeamPlanned { entries: 7, tree_bytes: [151, 149], paired: true });
+}
+
+/// "exactly one of them is given a job and the other waits"
+#[test]
+fn a_run_of_two_fitters() {
+    use Fitter::{First, Second};
+    let table = read_table(&trailer::table()).unwrap();
+    let run = |licences: &[u8]| {
+        let (planned, lent) = trailer_team(licences, 0x02);
+        let tick = |fitter: Fitter, held: u64, unread: u64| {
+            let tree = &lent.trees[fitter as usize][..planned.tree_bytes[fitter as usize]];
+            tick(&trailer::table(), tree, held, unread)
+        };
+        let told = |held, unread| FITTERS.map(|fitter| tick(fitter, held, unread).unwrap().status);
+        // At the goal, in a state that is not covered, and where a fact is to be read first, both are told the same.
+        assert_eq!(told(0x10, 0), [Status::Success; 2]);
+        assert_eq!(told(0x08, 0), [Status::Failure; 2]);
+        assert_eq!(told(0x02, 0x08), [Status::Unsettled(0x08); 2]);
+        brute::joint_run(&table, 0x02, |fitter, state| tick(fitter, state, 0))
+    };
+    assert_eq!(run(&trailer::LICENCES), (vec![(First, 3), (Second, 1), (First, 2), (First, 4)], true));
+    assert_eq!(run(&[2, 2, 1, 1, 2]), (vec![(First, 3), (Second, 1), (First, 2), (Second, 4)], true));
+    assert_eq!(run(&[2; 5]), (vec![(Second, 3), (Second, 1), (Second, 2), (Second, 4)], true));
+    assert_eq!(run(&[3; 5]), (vec![(First, 3), (First, 1), (First, 2), (First, 4)], true));
+    // One tree alone comes to no end of its own: its run ends where it waits.
+    let (planned, lent) = trailer_team(&trailer::LICENCES, 0x02);
+    let alone =
+        brute::run(&table, 0x02, |state| tick(&trailer::table(), &lent.trees[0][..planned.tree_bytes[0]], state, 0));
+    assert_eq!(alone, (vec![3], false));
+}
+
+/// Number and place of a plan for two fitters of the trailer, or of one with this table.
+fn team_stop(table: &[u8], licences: &[u8], held: u64, unread: u64, lent: &mut TeamLent) -> Option<(u64, usize)> {
+    plan_team(table, licences, held, unread, lent).err().map(|refusal| (refusal.number, refusal.place))
+}
+
+#[test]
+fn stops_of_a_team_come_in_order() {
+    let table = trailer::table();
+    let stop = |licences: &[u8], held: u64, unread: u64, capacity: usize, trees: [usize; 2]| {
+        team_stop(&table, licences, held, unread, &mut team_lent(capacity, trees))
+    };
+    // 24: the length first, with place 0, then the first licence that is none.
+    assert_eq!(stop(&trailer::LICENCES, 0x02, 0, 8, [109, 106]), None);
+    for row in [&[][..], &[1, 2, 3, 1], &[1, 2, 3, 1, 2, 3], &[9, 9, 9, 9], &[0; 200]] {
+        assert_eq!(stop(row, 0x02, 0, 8, [109, 106]), Some((24, 0)));
+    }
+    for (row, place) in [([0, 1, 2, 3, 1], 0), ([1, 2, 3, 4, 0], 3), ([1, 1, 1, 1, 255], 4), ([3, 16, 1, 0, 1], 1)] {
+        assert_eq!(stop(&row, 0x02, 0, 8, [109, 106]), Some((24, place)));
+    }
+    // After the table, 19 and 22 too; before 8, 9, 10, 11 and 12.
+    let long = Job { seconds: 5_401, ..trailer::jobs()[2] };
+    let both_ways = Job::paired(0x01, 0x01, 0x02, 0x00, 60);
+    let lent = &mut team_lent(0, [0, 0]);
+    assert_eq!(team_stop(&table[..146], &[], 0x20, 0, lent), Some((1, 146)));
+    assert_eq!(team_stop(&[&table[..], &[0]].concat(), &[0; 5], 0x20, 0, lent), Some((7, 147)));
+    assert_eq!(team_stop(&table_bytes(5, &[long], 0x10), &[0], 0x20, 0, lent), Some((19, 2)));
+    assert_eq!(team_stop(&table_bytes(5, &[both_ways], 0x10), &[], 0x20, 0, lent), Some((22, 2)));
+    assert_eq!(stop(&[1, 1, 1, 1, 4], 0x20, 0, 0, [0, 0]), Some((24, 4)));
+    assert_eq!(stop(&[1, 1, 1, 1], 0x02, 0x08, 0, [0, 0]), Some((24, 0)));
+    // Then those of a plan.
+    assert_eq!(stop(&trailer::LICENCES, 0x20, 0x01, 0, [0, 0]), Some((8, 0)));
+    assert_eq!(stop(&trailer::LICENCES, 0x02, 0x08, 0, [0, 0]), Some((9, 0)));
+    assert_eq!(stop(&trailer::LICENCES, 0x02, 0, 0, [0, 0]), Some((10, 0)));
+    assert_eq!(stop(&trailer::LICENCES, 0x08, 0, 8, [0, 0]), Some((10, 8)));
+    assert_eq!(stop(&trailer::LICENCES, 0x08, 0, 9, [0, 0]), Some((11, 9)));
+    // A table without jobs takes an empty row.
+    let jobless = table_bytes(5, &[], 0x10);
+    assert_eq!(team_stop(&jobless, &[], 0x10, 0, &mut team_lent(1, [13, 13])), None);
+    assert_eq!(team_stop(&jobless, &[1], 0x10, 0, lent), Some((24, 0)));
+    assert_eq!(team_stop(&jobless, &[], 0x02, 0, &mut team_lent(1, [13, 13])), Some((11, 1)));
+}
+
+/// "Number 12 is judged by each tree's own bytes, for both before either is written."
+#[test]
+fn trees_of_two_fitters_that_are_too_short() {
+    for trees in [[108, 106], [109, 105], [108, 105], [0, 111], [111, 0], [0, 0]] {
+        let mut lent = team_lent(8, trees);
+        assert_eq!(team_stop(&trailer::table(), &trailer::LICENCES, 0x02, 0, &mut lent), Some((12, 8)));
+        assert_eq!(lent.trees, team_lent(8, trees).trees);
+        assert_eq!(lent.lists.list(false, 8), trailer_list());
+    }
+    // All else that is refused writes nothing but, for 10 and 11, the list.
+    for (licences, held, stored) in [(&[4; 5], 0x02, 0), (&trailer::LICENCES, 0x20, 0), (&trailer::LICENCES, 0x01, 8)] {
+        let mut lent = team_lent(8, [111, 111]);
+        assert!(team_stop(&trailer::table(), licences, held, 0, &mut lent).is_some());
+        let unwritten = team_lent(8, [111, 111]);
+        assert_eq!(lent.trees, unwritten.trees);
+        if stored == 0 {
+            assert_eq!(lent, unwritten);
+        } else {
+            assert_eq!(lent.lists.list(false, stored), trailer_list());
+        }
+    }
+}
+
 #[test]
 fn stops_of_the_tree() {
     let table = read_table(&trailer::table()).unwrap();
@@ -387,7 +541,51 @@ fn stops_of_the_tree() {
     assert_eq!(stop(&pair(0, 0)[..16]), Some((13, 0)));
     assert_eq!(stop(&pair(0, 0)[..17]), Some((13, 17)));
     assert_eq!(stop(&chain(16, &pair(0, 0x20))), Some((14, 48)));
-    assert_eq!(stop(&[0x46, END_OF_TREE]), Some((13, 0)));
+    // So does a waiting leaf, under a table without jobs too; it has no operand, and may be as deep as any leaf.
+    assert_eq!(stop(&[WAITING_LEAF, END_OF_TREE]), None);
+    let jobless = Table { jobs: vec![], ..table.clone() };
+    assert!(read_tree(&[WAITING_LEAF, END_OF_TREE], &jobless).is_ok());
+    assert_eq!(stop(&[WAITING_LEAF]), Some((13, 1)));
+    assert_eq!(stop(&[WAITING_LEAF, 0, END_OF_TREE]), Some((13, 1)));
+    assert_eq!(stop(&[SEQUENCE, 2, 0, WAITING_LEAF, END_OF_TREE]), Some((13, 4)));
+    assert_eq!(stop(&chain(15, &[WAITING_LEAF, END_OF_TREE])), None);
+    assert_eq!(stop(&chain(16, &[WAITING_LEAF, END_OF_TREE])), Some((14, 48)));
+    // Their neighbours are no commands of a tree, and in a table it is none.
+    for unknown in [0x40, 0x47, 0x4e, 0x50] {
+        assert_eq!(stop(&[unknown, END_OF_TREE]), Some((13, 0)));
+    }
+    assert_eq!(table_stop(&[WAITING_LEAF]), (2, 0));
+    assert_eq!(table_stop(&[FACTS, 5, WAITING_LEAF]), (2, 2));
+}
+
+/// A waiting leaf "answers Running and names no job": neither node goes on after it.
+#[test]
+fn ticks_of_a_waiting_leaf() {
+    let table = read_table(&trailer::table()).unwrap();
+    let told = |tree: &[u8], held: u64, unread: u64| {
+        tick_node(&read_tree(&[tree, &[END_OF_TREE]].concat(), &table).unwrap(), held, unread)
+    };
+    let waiting = Ticked { status: Status::Waiting, leaf: 0 };
+    for (held, unread) in [(0, 0), (0x1f, 0), (0, 0x1f)] {
+        assert_eq!(told(&[WAITING_LEAF], held, unread), waiting);
+        for command in [FALLBACK, SEQUENCE] {
+            let before = [command, 2, 0, WAITING_LEAF, JOB_LEAF, 3];
+            assert_eq!(told(&before, held, unread), Ticked { leaf: 3, ..waiting });
+            let after = [command, 2, 0, JOB_LEAF, 3, WAITING_LEAF];
+            assert_eq!(told(&after, held, unread), Ticked { status: Status::Running(3), leaf: 3 });
+        }
+    }
+    let behind = |command: u8| [make::inner(command, 2), make::condition(0x01), vec![WAITING_LEAF]].concat();
+    let statuses =
+        |command: u8| [(0x01, 0), (0, 0), (0, 0x01)].map(|(held, unread)| told(&behind(command), held, unread));
+    assert_eq!(
+        statuses(SEQUENCE).map(|ticked| ticked.status),
+        [Status::Waiting, Status::Failure, Status::Unsettled(1)]
+    );
+    assert_eq!(
+        statuses(FALLBACK).map(|ticked| ticked.status),
+        [Status::Success, Status::Waiting, Status::Unsettled(1)]
+    );
 }
 
 /// The answers and the count of a batch with room for so many, or number and place.

@@ -5,7 +5,7 @@
 
 use std::sync::atomic::{AtomicU64, Ordering};
 
-use bay_tests::engine::{Batch, Card, Columns, Condition, Lent};
+use bay_tests::engine::{Batch, Card, Columns, Condition, Lent, TeamLent};
 
 extern "C" {
     fn bay_read_table(table: *const u8, table_len: usize, answer: *mut u64) -> u64;
@@ -63,6 +63,29 @@ extern "C" {
         depths_len: usize,
         tree: *mut u8,
         tree_len: usize,
+        answer: *mut u64,
+    ) -> u64;
+    fn bay_plan_team(
+        table: *const u8,
+        table_len: usize,
+        licences: *const u8,
+        licences_len: usize,
+        held: u64,
+        unread: u64,
+        conditions: *mut u64,
+        conditions_len: usize,
+        absences: *mut u64,
+        absences_len: usize,
+        jobs: *mut u8,
+        jobs_len: usize,
+        parents: *mut u16,
+        parents_len: usize,
+        depths: *mut u16,
+        depths_len: usize,
+        first: *mut u8,
+        first_len: usize,
+        second: *mut u8,
+        second_len: usize,
         answer: *mut u64,
     ) -> u64;
     fn bay_newest_weaker(
@@ -146,6 +169,7 @@ pub const SUCCESS: u64 = 0;
 pub const FAILURE: u64 = 1;
 pub const RUNNING: u64 = 2;
 pub const UNSETTLED: u64 = 3;
+pub const WAITING: u64 = 4;
 
 static CALLS: AtomicU64 = AtomicU64::new(0);
 
@@ -243,6 +267,35 @@ pub fn plan_shift(table: &[u8], lent: &mut Lent) -> [u64; 4] {
             lent.depths.len(),
             lent.tree.as_mut_ptr(),
             lent.tree.len(),
+            answer,
+        )
+    })
+}
+
+pub fn plan_team(table: &[u8], licences: &[u8], held: u64, unread: u64, lent: &mut TeamLent) -> [u64; 5] {
+    let TeamLent { lists, trees: [first, second] } = lent;
+    answer_of(|answer| unsafe {
+        bay_plan_team(
+            table.as_ptr(),
+            table.len(),
+            licences.as_ptr(),
+            licences.len(),
+            held,
+            unread,
+            lists.conditions.as_mut_ptr(),
+            lists.conditions.len(),
+            lists.absences.as_mut_ptr(),
+            lists.absences.len(),
+            lists.jobs.as_mut_ptr(),
+            lists.jobs.len(),
+            lists.parents.as_mut_ptr(),
+            lists.parents.len(),
+            lists.depths.as_mut_ptr(),
+            lists.depths.len(),
+            first.as_mut_ptr(),
+            first.len(),
+            second.as_mut_ptr(),
+            second.len(),
             answer,
         )
     })

@@ -1,6 +1,6 @@
 //! docs/FORMATS.md: the bytes that it lists are those of both trailers, what it prints is what `bayplan` prints, and no number is left out.
 
-use crate::engine::{expand, read_table, tree_bytes, MOST_ENTRIES};
+use crate::engine::{expand, fitter_tree_bytes, read_table, tree_bytes, Fitter, MOST_ENTRIES};
 use crate::header_tests::{file, refusals};
 use crate::trailer::{self, one_fact_less};
 
@@ -41,6 +41,11 @@ fn listed_bytes_are_the_trailers() {
     assert_eq!(listed("### The trailer's tree"), tree_of(&trailer::table(), 0x02));
     assert_eq!(listed("### The table with one fact less"), one_fact_less::table());
     assert_eq!(listed("### The tree with one fact less"), tree_of(&one_fact_less::table(), 0x01));
+    assert_eq!(listed("### The licences at the trailer"), trailer::LICENCES);
+    let table = read_table(&trailer::table()).expect("sound");
+    let list = expand(&table, Some(0x02), MOST_ENTRIES).0;
+    let of_second = fitter_tree_bytes(&table, &list, &trailer::LICENCES, Fitter::Second);
+    assert_eq!(listed("### The second fitter's tree"), of_second);
 }
 
 #[test]

@@ -5,7 +5,7 @@ use crate::random::Random;
 use crate::trailer;
 
 pub const TABLE_COMMANDS: [u8; 5] = [FACTS, JOB, PAIRED_JOB, GOAL, END_OF_TABLE];
-pub const TREE_COMMANDS: [u8; 6] = [FALLBACK, SEQUENCE, CONDITION, JOB_LEAF, PAIR, END_OF_TREE];
+pub const TREE_COMMANDS: [u8; 7] = [FALLBACK, SEQUENCE, CONDITION, JOB_LEAF, PAIR, WAITING_LEAF, END_OF_TREE];
 
 /// Which jobs a table is made of.
 #[derive(Clone, Copy, Debug, PartialEq, Eq)]
@@ -149,6 +149,38 @@ pub fn any_reading(random: &mut Random, facts: u32) -> (u64, u64) {
         _ => {}
     }
     (held, unread)
+}
+
+/// A licence for each of so many jobs; now and then all are alike.
+pub fn licences(random: &mut Random, jobs: usize) -> Vec<u8> {
+    let alike = *random.pick(&LICENCES);
+    let differ = !random.one_in(8);
+    (0..jobs).map(|_| if differ { *random.pick(&LICENCES) } else { alike }).collect()
+}
+
+/// Every row of licences for so many jobs.
+pub fn every_row_of_licences(jobs: usize) -> Vec<Vec<u8>> {
+    let mut rows = vec![Vec::new()];
+    for _ in 0..jobs {
+        rows = rows.iter().flat_map(|row| LICENCES.map(|licence| [&row[..], &[licence]].concat())).collect();
+    }
+    rows
+}
+
+/// Changes a row of licences: one or two that are none, a row that is too short or too long, or both.
+pub fn damage_licences(random: &mut Random, licences: &mut Vec<u8>) {
+    let which = random.below(3);
+    if which != 0 {
+        let longer = licences.len() + random.between(1, 3);
+        let shorter = random.below(licences.len() + 1);
+        licences.resize(*random.pick(&[shorter, longer, 0]), 2);
+    }
+    if which != 1 {
+        for _ in 0..random.between(1, 2).min(licences.len()) {
+            let any = random.byte();
+            *random.pick_mut(licences) = *random.pick(&[0, 4, 255, any]);
+        }
+    }
 }
 
 /// The rows that a batch is made of.
@@ -309,8 +341,11 @@ pub fn pair_condition(present: u64, absent: u64) -> Vec<u8> {
     [&[PAIR][..], &present.to_le_bytes(), &absent.to_le_bytes()].concat()
 }
 
-/// A leaf that the table knows. Either condition may stand in any tree, also a pair that wants a fact both ways.
+/// A leaf that the table knows. Either condition may stand in any tree, also a pair that wants a fact both ways, and so may a waiting leaf.
 pub fn leaf(random: &mut Random, table: &Table) -> Vec<u8> {
+    if random.one_in(8) {
+        return vec![WAITING_LEAF];
+    }
     if !table.jobs.is_empty() && random.one_in(3) {
         return vec![JOB_LEAF, random.below(table.jobs.len()) as u8];
     }

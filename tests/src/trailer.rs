@@ -37,6 +37,10 @@ pub const PRINTED: &str = "plan 8 111
 way 4 26
 ";
 
+/// Licences of two fitters at the trailer, with one fact less too (document 02, W12): the first measures, the second couples and uncouples, and both
+/// may seal.
+pub const LICENCES: [u8; 5] = [2, 2, 1, 1, 3];
+
 /// The trailer without a fact for "trailer off": "Some jobs need the trailer to be off, and a second fact for that is clumsy" (document 02, W10).
 /// 0 trailer on, 1 unloaded known, 2 loaded known, 3 sealed.
 pub mod one_fact_less {

@@ -4,11 +4,11 @@
 
 use bay_tests::engine::{
     self, Batch, BatchTicked, Card, Columns, Condition, Job, Lengths, Lent, Planned, Refusal, ShiftPlanned, Status,
-    Table, Ticked, Unwritten,
+    Table, TeamLent, TeamPlanned, Ticked, Unwritten,
 };
 use bay_tests::make::BatchRows;
 
-use super::lent;
+use super::lent::{self, TeamLengths};
 use crate::ffi;
 
 use std::cell::RefCell;
@@ -24,13 +24,14 @@ fn reached(function: &'static str, number: u64) {
 }
 
 /// The numbers that each function can give.
-const NUMBERS: [(&str, &[u64]); 11] = [
+const NUMBERS: [(&str, &[u64]); 12] = [
     ("read_table", &[0, 1, 2, 3, 4, 5, 6, 7, 19, 22]),
     ("read_job", &[0, 1, 2, 3, 4, 5, 6, 7, 16, 19, 22]),
     ("write_table", &[0, 3, 4, 5, 6, 19, 22, ffi::TOO_SHORT, ffi::UNEVEN, ffi::UNWRITABLE]),
     ("newest_weaker", &[0]),
     ("plan", &[0, 1, 2, 3, 4, 5, 6, 7, 8, 9, 10, 11, 12, 19, 22]),
     ("plan_shift", &[0, 1, 2, 3, 4, 5, 6, 7, 10, 12, 19, 22]),
+    ("plan_team", &[0, 1, 2, 3, 4, 5, 6, 7, 8, 9, 10, 11, 12, 19, 22, 24]),
     ("tick", &[0, 1, 2, 3, 4, 5, 6, 7, 8, 13, 14, 15, 19, 22]),
     ("tick_all", &[0, 1, 2, 3, 4, 5, 6, 7, 8, 13, 15, 19, 22]),
     ("open", &[0, 1, 2, 3, 4, 5, 6, 7, 8, 19, 22]),
@@ -105,16 +106,43 @@ fn no_difference<const N: usize>(differences: [Option<String>; N], case: impl Fn
     }
 }
 
-fn same_lent(library: &Lent, engine: &Lent, case: impl Fn() -> String) {
-    let differences = [
-        first_difference("conditions", &library.conditions, &engine.conditions),
-        first_difference("absences", &library.absences, &engine.absences),
-        first_difference("jobs", &library.jobs, &engine.jobs),
-        first_difference("parents", &library.parents, &engine.parents),
-        first_difference("depths", &library.depths, &engine.depths),
-        first_difference("tree", &library.tree, &engine.tree),
-    ];
-    no_difference(differences, case);
+/// The slices that a plan is lent.
+trait Slices: Clone {
+    fn lengths(&self) -> Vec<usize>;
+
+    /// The first place where two differ.
+    fn difference(library: &Self, engine: &Self) -> Option<String>;
+}
+
+impl Slices for Lent {
+    fn lengths(&self) -> Vec<usize> {
+        let lists = [self.conditions.len(), self.absences.len(), self.jobs.len()];
+        [&lists[..], &[self.parents.len(), self.depths.len(), self.tree.len()]].concat()
+    }
+
+    fn difference(library: &Lent, engine: &Lent) -> Option<String> {
+        let differences = [
+            first_difference("conditions", &library.conditions, &engine.conditions),
+            first_difference("absences", &library.absences, &engine.absences),
+            first_difference("jobs", &library.jobs, &engine.jobs),
+            first_difference("parents", &library.parents, &engine.parents),
+            first_difference("depths", &library.depths, &engine.depths),
+            first_difference("tree", &library.tree, &engine.tree),
+        ];
+        differences.into_iter().flatten().next()
+    }
+}
+
+impl Slices for TeamLent {
+    fn lengths(&self) -> Vec<usize> {
+        self.lists.lengths().into_iter().chain(self.trees.iter().map(Vec::len)).collect()
+    }
+
+    fn difference(library: &TeamLent, engine: &TeamLent) -> Option<String> {
+        Lent::difference(&library.lists, &engine.lists)
+            .or_else(|| first_difference("first", &library.trees[0], &engine.trees[0]))
+            .or_else(|| first_difference("second", &library.trees[1], &engine.trees[1]))
+    }
 }
 
 pub fn read_table(bytes: &[u8]) -> Result<Table, Refusal> {
@@ -169,40 +197,41 @@ pub fn write_table(
     (result, out)
 }
 
-/// One plan into slices of these lengths; under a table without 0x21 the second masks are of another.
-fn into_lent<T, const N: usize>(
+/// One plan into the slices that it is lent.
+fn into_lent<L: Slices, T, const N: usize>(
     function: &'static str,
     table: &[u8],
-    lengths: Lengths,
-    pattern: u64,
+    unwritten: L,
     operands: impl Fn() -> String,
-    by_engine: impl Fn(&[u8], &mut Lent) -> Result<T, Refusal>,
+    by_engine: impl Fn(&[u8], &mut L) -> Result<T, Refusal>,
     words: impl Fn(&T) -> [u64; N],
-    by_library: impl Fn(&[u8], &mut Lent) -> [u64; N],
-) -> (Result<T, Refusal>, Lent) {
-    let lengths = lent::with_second_masks(table, lengths, pattern);
-    let mut lent = Lent::filled(lengths, pattern);
-    let mut library_lent = lent.clone();
+    by_library: impl Fn(&[u8], &mut L) -> [u64; N],
+) -> (Result<T, Refusal>, L) {
+    let (mut lent, mut library_lent) = (unwritten.clone(), unwritten);
     let result = by_engine(table, &mut lent);
     let expected = match &result {
         Ok(planned) => words(planned),
         Err(refusal) => refused(refusal),
     };
     let copy = table.to_vec();
-    let case = || format!("{function} {} {} lent {lengths:?}", hex(table), operands());
+    let case = || format!("{function} {} {} lent {:?}", hex(table), operands(), lent.lengths());
     reached(function, expected[0]);
     same(by_library(&copy, &mut library_lent), expected, case);
     same(copy.as_slice(), table, case);
-    same_lent(&library_lent, &lent, case);
+    no_difference([L::difference(&library_lent, &lent)], case);
     (result, lent)
+}
+
+/// Slices of these lengths for a plan; under a table without 0x21 the second masks are of another.
+fn unwritten(table: &[u8], lengths: Lengths, pattern: u64) -> Lent {
+    Lent::filled(lent::with_second_masks(table, lengths, pattern), pattern)
 }
 
 pub fn plan(table: &[u8], held: u64, unread: u64, lengths: Lengths, pattern: u64) -> (Result<Planned, Refusal>, Lent) {
     into_lent(
         "plan",
         table,
-        lengths,
-        pattern,
+        unwritten(table, lengths, pattern),
         || format!("held {held:x} unread {unread:x}"),
         |table, lent| engine::plan(table, held, unread, lent),
         |p| {
@@ -217,13 +246,41 @@ pub fn plan_shift(table: &[u8], lengths: Lengths, pattern: u64) -> (Result<Shift
     into_lent(
         "plan_shift",
         table,
-        lengths,
-        pattern,
+        unwritten(table, lengths, pattern),
         String::new,
         engine::plan_shift,
         |planned| [0, planned.entries as u64, planned.tree_bytes as u64, u64::from(planned.paired)],
         ffi::plan_shift,
     )
+}
+
+/// A plan for two fitters, into list tables and trees of these lengths.
+pub fn plan_team(
+    table: &[u8],
+    licences: &[u8],
+    held: u64,
+    unread: u64,
+    lengths: TeamLengths,
+    pattern: u64,
+) -> (Result<TeamPlanned, Refusal>, TeamLent) {
+    let unwritten = TeamLent::filled(lent::with_second_masks(table, lengths.plan, pattern), lengths.second, pattern);
+    let row = with_spare(licences, 0);
+    let copy = row.clone();
+    let operands = || format!("licences {licences:?} held {held:x} unread {unread:x}");
+    let done = into_lent(
+        "plan_team",
+        table,
+        unwritten,
+        operands,
+        |table, lent| engine::plan_team(table, licences, held, unread, lent),
+        |planned| {
+            let [first, second] = planned.tree_bytes;
+            [0, planned.entries as u64, first as u64, second as u64, u64::from(planned.paired)]
+        },
+        |table, lent| ffi::plan_team(table, &copy[..licences.len()], held, unread, lent),
+    );
+    same(&copy, &row, operands);
+    done
 }
 
 pub fn status_words(status: Status) -> (u64, u64) {
@@ -232,6 +289,7 @@ pub fn status_words(status: Status) -> (u64, u64) {
         Status::Failure => (ffi::FAILURE, 0),
         Status::Running(job) => (ffi::RUNNING, u64::from(job)),
         Status::Unsettled(mask) => (ffi::UNSETTLED, mask),
+        Status::Waiting => (ffi::WAITING, 0),
     }
 }
 
@@ -256,7 +314,7 @@ pub fn tick(table: &[u8], tree: &[u8], held: u64, unread: u64) -> Result<Ticked,
     result
 }
 
-/// Elements past each row that is lent to a batch. Read, they would be refused, as facts, jobs and readings; written, they would be seen.
+/// Elements past each row of numbers that is lent. Read, they would be refused, as facts, jobs, readings and licences; written, they would be seen.
 const SPARE: usize = 3;
 
 fn with_spare<T: Copy>(row: &[T], spare: T) -> Vec<T> {

@@ -133,6 +133,7 @@ fn through_a_plan(random: &mut Random, _: u64, kind: Jobs) {
         match checks::tick(&bytes, tree, card.held, card.unread).expect("a sound tree and card").status {
             Status::Success => break,
             Status::Failure => panic!("a covered state does not fail"),
+            Status::Waiting => panic!("a plan's tree names every job"),
             Status::Running(number) => {
                 let seconds = random.next() as u16;
                 let job = table.jobs[usize::from(number)];

@@ -16,13 +16,15 @@ pub fn groups() -> Vec<Vec<Group>> {
         both("ticks_of_built_trees", 500, built),
         both("ticks_of_any_shape", 50_000, any_shape),
         one("ticks_of_one_pair", 1, one_pair),
+        one("ticks_of_waiting_leaves", 1, waiting_leaves),
+        one("ticks_of_waiting_leaves_in_depth", 17, waiting_in_depth),
         both("ticks_every_byte_changed", 153, every_byte_changed),
         both("ticks_every_cut", 400, every_cut),
         both("ticks_damaged", 80_000, damaged),
         both("ticks_of_any_bytes", 40_000, any_bytes),
         both("ticks_deep", 5_000, deep),
         one("ticks_wide", 32, wide),
-        one("ticks_longest", 12, longest),
+        one("ticks_longest", 15, longest),
         both("ticks_refused", 40_000, refused),
         both("filling_in_any_tree", 10_000, filling_in_any_tree),
         both("filling_in_built_trees", 12_000, filling_in_built_trees),
@@ -79,12 +81,77 @@ fn one_pair(_: &mut Random, _: u64) {
                 };
                 for tree in &trees {
                     let ticked = checks::tick(&bytes, tree, held, unread).expect("a sound tree");
-                    let passed = tree[0] == FALLBACK && status == Status::Failure
-                        || tree[0] == SEQUENCE && status == Status::Success;
+                    let passed = goes_on_after(tree[0], status);
                     assert_eq!(ticked.status, if passed { Status::Running(0) } else { status });
                 }
             });
         }
+    }
+}
+
+/// Whether a node of this command goes on after a child's answer.
+fn goes_on_after(command: u8, status: Status) -> bool {
+    command == FALLBACK && status == Status::Failure || command == SEQUENCE && status == Status::Success
+}
+
+/// A waiting leaf alone, before and after a condition, a job and another one, under both nodes, on every reading of three facts: neither node goes on after
+/// it. It takes no operand, whatever follows it, and needs no job in the table.
+fn waiting_leaves(_: &mut Random, _: u64) {
+    for bytes in [table_bytes(3, &[Job::plain(0, 1, 0, 1)], 0), table_bytes(3, &[Job::paired(0, 2, 1, 0, 1)], 0)] {
+        let told = |tree: &[u8], held, unread| {
+            checks::tick(&bytes, &[tree, &[END_OF_TREE]].concat(), held, unread).expect("a sound tree").status
+        };
+        let under = |command, children: &[&[u8]]| [make::inner(command, children.len()), children.concat()].concat();
+        let (waiting, job) = (&[WAITING_LEAF][..], &[JOB_LEAF, 0][..]);
+        every_reading(3, |held, unread| {
+            assert_eq!(told(waiting, held, unread), Status::Waiting);
+            for command in [FALLBACK, SEQUENCE] {
+                for (present, absent) in [(1, 0), (3, 0), (0, 4), (0, 0), (2, 1)] {
+                    let leaf = make::pair_condition(present, absent);
+                    let status = Condition { present, absent }.status(held, unread);
+                    let after = if goes_on_after(command, status) { Status::Waiting } else { status };
+                    assert_eq!(told(&under(command, &[&leaf, waiting]), held, unread), after);
+                    assert_eq!(told(&under(command, &[&leaf, waiting, job]), held, unread), after);
+                    assert_eq!(told(&under(command, &[waiting, &leaf]), held, unread), Status::Waiting);
+                }
+                assert_eq!(told(&under(command, &[waiting, job]), held, unread), Status::Waiting);
+                assert_eq!(told(&under(command, &[job, waiting]), held, unread), Status::Running(0));
+                assert_eq!(told(&under(command, &[waiting, waiting]), held, unread), Status::Waiting);
+            }
+        });
+    }
+    // Without jobs in the table a job leaf is 15, and a waiting one is not.
+    let jobless = table_bytes(3, &[], 0);
+    let stop = |tree: &[u8]| checks::tick(&jobless, tree, 0, 0).map_err(|refusal| (refusal.number, refusal.place));
+    assert_eq!(stop(&[WAITING_LEAF, END_OF_TREE]).map(|ticked| ticked.status), Ok(Status::Waiting));
+    assert_eq!(stop(&[SEQUENCE, 2, 0, WAITING_LEAF, JOB_LEAF, 0, END_OF_TREE]).err(), Some((15, 4)));
+    // Cut after it, and each byte that is not END after it.
+    assert_eq!(stop(&[WAITING_LEAF]).err(), Some((13, 1)));
+    for byte in 0..=255 {
+        let end = byte == END_OF_TREE;
+        assert_eq!(stop(&[WAITING_LEAF, byte]).err(), if end { None } else { Some((13, 1)) });
+        assert_eq!(stop(&[WAITING_LEAF, byte, END_OF_TREE]).err(), Some((13, if end { 2 } else { 1 })));
+        assert_eq!(stop(&[SEQUENCE, 1, 0, WAITING_LEAF, byte]).err(), if end { None } else { Some((13, 4)) });
+    }
+    assert_eq!(stop(&[SEQUENCE, 2, 0, WAITING_LEAF, END_OF_TREE]).err(), Some((13, 4)));
+    assert_eq!(stop(&[FALLBACK, 2, 0, WAITING_LEAF]).err(), Some((13, 4)));
+}
+
+/// A waiting leaf under so many nodes: it may be as deep as any other leaf, and deeper it is 14, which comes before an END that is missing.
+fn waiting_in_depth(random: &mut Random, index: u64) {
+    let (table, above) = (trailer::table(), index as usize);
+    for _ in 0..20 {
+        let nodes: Vec<u8> = (0..above).flat_map(|_| make::inner(*random.pick(&[FALLBACK, SEQUENCE]), 1)).collect();
+        let (held, unread) = make::reading(random, 5);
+        let told = |rest: &[u8]| checks::tick(&table, &[&nodes[..], rest].concat(), held, unread);
+        let ticked = told(&[WAITING_LEAF, END_OF_TREE]);
+        if above < MOST_DEPTH {
+            assert_eq!(ticked, Ok(Ticked { status: Status::Waiting, leaf: nodes.len() }));
+        } else {
+            assert_eq!(ticked, Err(Refusal { number: 14, place: nodes.len() }));
+        }
+        let cut = told(&[WAITING_LEAF]).expect_err("no END");
+        assert_eq!(cut.number, if above < MOST_DEPTH { 13 } else { 14 });
     }
 }
 
@@ -130,7 +197,7 @@ fn every_cut(random: &mut Random, _: u64, kind: Jobs) {
         let cut = checks::tick(&bytes, &tree[..length], held, unread);
         assert_eq!(cut.expect_err("a cut tree").number, 13);
     }
-    for extra in [END_OF_TREE, FALLBACK, CONDITION, PAIR, 0, random.byte()] {
+    for extra in [END_OF_TREE, FALLBACK, CONDITION, PAIR, WAITING_LEAF, 0, random.byte()] {
         let longer = [&tree[..], &[extra]].concat();
         let refusal = checks::tick(&bytes, &longer, held, unread).expect_err("a tree that goes on");
         assert_eq!((refusal.number, refusal.place), (13, tree.len()));
@@ -185,6 +252,7 @@ fn deep(random: &mut Random, index: u64, kind: Jobs) {
         7 => [make::inner(FALLBACK, 2), make::condition(1), vec![JOB_LEAF, 1]].concat(),
         8 => make::pair_condition(1 << 63, 0),
         9 => make::pair_condition(0, 1 << 63),
+        10 => vec![WAITING_LEAF],
         _ => make::leaf(random, &table),
     };
     let mut tree = make::chain(random, &table, above, &bottom);
@@ -258,9 +326,11 @@ fn longest(_: &mut Random, index: u64) {
         5 => vec![0; MOST_TREE_BYTES + 1],
         6 => [&[SEQUENCE, 1, 0][..]].concat().repeat(21_845),
         7 => [sound, vec![0; 65_536]].concat(),
+        // One leaf less than fits, as many as fit, and one more.
+        8..11 => most_leaves(65_482 + index as usize - 8),
         // 3 + 3,854 x 17 + 7 x 2 + END are 65,536; with a job less 65,534.
         _ => {
-            let jobs = index as usize - 3;
+            let jobs = index as usize - 6;
             let pairs = make::pair_condition(1, 2).repeat(3_854);
             [make::inner(SEQUENCE, 3_854 + jobs), pairs, [JOB_LEAF, 2].repeat(jobs), vec![END_OF_TREE]].concat()
         }
@@ -268,6 +338,18 @@ fn longest(_: &mut Random, index: u64) {
     for (held, unread) in [(1, 0), (3, 0), (1, 2), (0, 0), (0, 1), (1, 1)] {
         let _ = checks::tick(&table, &bytes, held, unread);
     }
+}
+
+/// A tree of so many waiting leaves, which are the shortest nodes: 3 + 16 x 3 for the seventeen inner ones, END.
+fn most_leaves(leaves: usize) -> Vec<u8> {
+    let mut bytes = make::inner(FALLBACK, 16);
+    for i in 0..16 {
+        let children = leaves / 16 + usize::from(i < leaves % 16);
+        bytes.extend(make::inner(SEQUENCE, children));
+        bytes.extend(vec![WAITING_LEAF; children]);
+    }
+    bytes.push(END_OF_TREE);
+    bytes
 }
 
 /// Faults of the table, the reading and the tree at once.
@@ -361,7 +443,9 @@ fn small_stack(_: &mut Random, _: u64) {
         deep(SEQUENCE, 1),
         deep(FALLBACK, 400),
         deep(SEQUENCE, 400),
+        most_leaves(65_483),
     ];
+    assert_eq!(trees[trees.len() - 1].len(), MOST_TREE_BYTES);
     let longest = [longest(Plain, 4_096, 57_343), longest(Paired, 2_978, 65_515)];
     let expected: Vec<[u64; 3]> =
         trees.iter().map(|tree| checks::tick_words(&tick(&trailer_bytes, tree, 1, 0))).collect();

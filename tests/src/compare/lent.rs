@@ -66,6 +66,41 @@ pub fn trees_around(table: &Table, entries: usize) -> [usize; 8] {
     [0, 1, 14 * entries - 1, need.saturating_sub(14), need - 1, need, need + 1, need + 40]
 }
 
+/// The lengths of what a plan for two fitters is lent: those of a plan, whose tree is the first fitter's, and that of the second fitter's tree.
+#[derive(Clone, Copy, Debug)]
+pub struct TeamLengths {
+    pub plan: Lengths,
+    pub second: usize,
+}
+
+impl TeamLengths {
+    pub fn of(capacity: usize, trees: [usize; 2]) -> TeamLengths {
+        TeamLengths { plan: lists(capacity, trees[0]), second: trees[1] }
+    }
+
+    pub fn full() -> TeamLengths {
+        TeamLengths::of(MOST_ENTRIES, [MOST_TREE_BYTES; 2])
+    }
+
+    /// Just enough for a list and the trees of both fitters.
+    pub fn exactly(table: &Table, list: &[Entry], licences: &[u8]) -> TeamLengths {
+        TeamLengths::of(list.len(), team_tree_bytes(table, list, licences))
+    }
+
+    /// Each table of any length up to `most` entries, and trees that are too short more often than not.
+    pub fn any(random: &mut Random, table: &Table, most: usize) -> TeamLengths {
+        TeamLengths { plan: any(random, table, most), second: random.below(tree_bytes(table, most)) }
+    }
+}
+
+/// The bytes of both fitters' trees: those of the list's tree, less one for each waiting leaf.
+pub fn team_tree_bytes(table: &Table, list: &[Entry], licences: &[u8]) -> [usize; 2] {
+    let of_second = list[1..].iter().filter(|entry| licences[usize::from(entry.job)] == 2).count();
+    let of_first = list.len() - 1 - of_second;
+    let all = tree_bytes(table, list.len());
+    [all - of_second, all - of_first]
+}
+
 /// Under a table without 0x21, sound or not, the second masks are of no account. So there they are lent in any length, none included.
 pub fn with_second_masks(table: &[u8], lengths: Lengths, pattern: u64) -> Lengths {
     let mut lengths = lengths;

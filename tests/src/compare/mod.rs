@@ -7,6 +7,7 @@ pub mod groups_plans;
 pub mod groups_searches;
 pub mod groups_shift;
 pub mod groups_tables;
+pub mod groups_teams;
 pub mod groups_ticks;
 pub mod lent;
 
@@ -43,6 +44,7 @@ pub fn groups() -> Vec<Group> {
         groups_shift::groups(),
         groups_ticks::groups(),
         groups_batches::groups(),
+        groups_teams::groups(),
         groups_cards::groups(),
     ];
     all.into_iter().flatten().flatten().collect()
