@@ -14,7 +14,6 @@ use Rattle.tree.specs.declared.Kind.the-variants.{Fallback, Sequence}
 use Rattle.tree.specs.declared.Leaf.{Leaf}
 use Rattle.tree.specs.declared.Leaf.the-variants as L
 use Rattle.tree.specs.Tree.{Tree, Row, leaf, node, one, more}
-use Rattle.tree.specs.ReadTree.{maxChildren}
 use Rattle.flat.specs.TreeBytes.{firstBytes, conditionAt, actionAt, pastEntry, rootConditionAt}
 
 -- an action's leaf, in the tree of the one whose it is, or of another

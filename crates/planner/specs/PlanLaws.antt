@@ -11,7 +11,7 @@ use lib.Seq.{take-all}
 use Rattle.base.specs.Bools.{holds}
 use Rattle.masks.specs.Sets.{within}
 use Rattle.refusal.specs.Checked.{Checked, accepted, refused, andThen}
-use Rattle.refusal.specs.CheckedLaws.{not-both, accepted-same, accepted-then}
+use Rattle.refusal.specs.CheckedLaws.{accepted-same, accepted-then}
 use Rattle.reading.specs.declared.Reading.{Reading}
 use Rattle.reading.specs.Reading.{checkedStart, state}
 use Rattle.reading.specs.ReadingLaws.{sound-held, start-told}
@@ -26,14 +26,14 @@ use Rattle.planning.specs.Sequence.{Answer}
 use Rattle.planning.specs.Listing.{path}
 use Rattle.planning.specs.PathLaws.{path-same, path-short}
 use Rattle.planning.specs.Theory.{first-unique, first-covered}
-use Rattle.planning.specs.Expansion.{Entry, Outcome, exhausted, covered, full, entries, entryIn, root, listing}
+use Rattle.planning.specs.Expansion.{Entry, Outcome, covered, entries, entryIn, root, listing}
 use Rattle.planning.specs.Facts.{factPlan}
 use Rattle.planning.specs.FactLaws.{fact-plannable, fact-start-first}
 use Rattle.planning.specs.DemandLaws.{planned-fits, planned-good, planned-action, planned-path}
 use Rattle.minutes.specs.Minutes.{nearest}
 use Rattle.expander.specs.declared.Until.{Until}
 use Rattle.expander.specs.declared.Until.the-variants.{Covers}
-use Rattle.expander.specs.Expands.{Columns, written, endedBy, listedBy, room}
+use Rattle.expander.specs.Expands.{Columns, written, endedBy, room}
 use Rattle.expander.specs.ExpandsLaws.{over-long, over-at}
 use Rattle.builder.specs.declared.Size.{Size}
 use Rattle.tree.specs.TickBytes.{tickChecked, tickBytes}

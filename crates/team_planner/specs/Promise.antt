@@ -30,7 +30,7 @@ use Rattle.builder.specs.Plan.{tableDomain, pairs}
 use Rattle.builder.specs.Works.{Works, Irredundant}
 use Rattle.team_planner.specs.declared.TeamSize.{TeamSize}
 use Rattle.team_planner.specs.declared.TeamPlanned.{TeamPlanned}
-use Rattle.team_planner.specs.Team.{ofEach, TeamPlan, fitterTree, planTeam, teamOf, WritesTeam}
+use Rattle.team_planner.specs.Team.{TeamPlan, fitterTree, planTeam, teamOf, WritesTeam}
 
 -- ---- the run of both trees: "in demand 3 the run of these trees ticks both on the same state until neither names a job"
 

@@ -4,13 +4,12 @@ use Prim.Native.Nat.{ℕ, suc, _≤_, _<_}
 use native.Mathlib.Nat.{not-suc-le-zero}
 use native.Mathlib.Omega.{arith}
 use mathlib.Core.Path.{_≡_, refl, sym, ap, _∙_, subst}
-use mathlib.Core.Bool.{Bool, true, false}
+use mathlib.Core.Bool.{Bool, true}
 use mathlib.Core.List.{List, [], _∷_}
 use mathlib.Core.Logic.{_⊎_, ⊎-elim, inl, inr}
 use lib.Dec.{T}
 use lib.ListN.{length, getD}
-use Rattle.base.specs.Bools.{holds, is-true}
-use Rattle.base.specs.Lists.{getD-inside}
+use Rattle.base.specs.Bools.{is-true}
 use Rattle.masks.specs.Sets.{within}
 use Rattle.refusal.specs.Checked.{Checked, accepted, refused, andThen}
 use Rattle.refusal.specs.CheckedLaws.{not-both, accepted-same}
@@ -31,7 +30,7 @@ use Rattle.planning.specs.Sequence.{success, running, Reaches, Run}
 use Rattle.planning.specs.Listing.{path}
 use Rattle.planning.specs.Columns.{maxEntries}
 use Rattle.planning.specs.Expansion.{Entry, Outcome, covered, entries, listing}
-use Rattle.planning.specs.Demand.{CoveredBy, FirstIn, Fewest, tickList}
+use Rattle.planning.specs.Demand.{CoveredBy, FirstIn, Fewest}
 use Rattle.planning.specs.FactLaws.{fact-start-first, fact-no-way}
 use Rattle.tree.specs.declared.Status.{Status}
 use Rattle.tree.specs.declared.Status.the-variants.{Success, Failure, Running, Unsettled, Waiting}
@@ -51,7 +50,7 @@ use Rattle.team_planner.specs.declared.TeamSize.{TeamSize}
 use Rattle.team_planner.specs.declared.TeamPlanned.{TeamPlanned}
 use Rattle.team_planner.specs.Team.{TeamPlan, noTeam, fitterTree, teamSize, listAndTrees, teamBy, teamPlan, teamFor, afterTeam, planTeam, teamOf, WritesTeam}
 use Rattle.team_planner.specs.TeamLaws.{team-list, team-whole, team-told}
-use Rattle.team_planner.specs.Promise.{jointStatus, joint, toldTo, jointOn, Shared, TeamWorks, NoTeamRoom, TeamKeeps, PlansTeam}
+use Rattle.team_planner.specs.Promise.{jointStatus, toldTo, jointOn, Shared, TeamWorks, NoTeamRoom, TeamKeeps, PlansTeam}
 
 -- ---- what both see of the team's answer, taken together
 

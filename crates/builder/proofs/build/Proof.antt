@@ -42,6 +42,10 @@ stored-of c = c .before .before
 ended-is : (c : Listed) → listedOf (list-of (stored-of c) .list-goal .result) ≡ accepted (c .n .given .0 .0)
 ended-is c = ap listedOf (c .n .given .1)
 
+-- the tree is lent on
+abbrev fitting-of : tie.After-fit-tree-arg4 → Listed
+fitting-of c = c .before .before .before .before .before
+
 -- ---- the answers, in the order of the code
 
 list-goal-requires : tie.Need-list-goal-requires
@@ -55,7 +59,7 @@ enum-known-n c = search needs
 
 fit-tree-requires : tie.Need-fit-tree-requires
 fit-tree-requires c κs =
-    let x = c .before .before .before .before .before in
+    let x = fitting-of c in
     let k = stored-of x in
     let t = table-of k in
     let S = list-of k .list-goal .ensures (t .0) (t .1) .list-stands _ (ended-is x) in
@@ -103,7 +107,7 @@ same-length-11 c = search needs
 returns-2 : tie.Need-returns-2
 returns-2 c =
     let w = c .before .before in
-    let x = w .before .before .before .before .before .before in
+    let x = fitting-of (w .before) in
     let s = stored-of x in
     let a = start-of s .args in
     λ t e.

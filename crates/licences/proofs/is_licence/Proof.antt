@@ -1,6 +1,5 @@
 -- `licences::is_licence` meets its contract, bound by bound.
 -- Assumes nothing.
-use mathlib.Core.Path.{refl}
 use borrow.Author.Tests.{lt-leb, le-leb}
 use Rattle.licences.specs.Licences.{FIRST, isLicence}
 use Rattle.licences.proofs.is_licence.Statement.{statement}

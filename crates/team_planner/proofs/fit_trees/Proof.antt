@@ -1,20 +1,18 @@
 -- `team_planner::fit_trees` meets its contract: both trees are measured, then both are written where both fit.
 -- Assumes nothing.
 use native.Mathlib.Omega.{arith}
-use mathlib.Core.Path.{_≡_, refl, sym, ap, _∙_}
+use mathlib.Core.Path.{_≡_, sym, ap, _∙_}
 use mathlib.Core.List.{List, []}
-use Prim.Native.Nat.{ℕ}
 use lib.ListN.{length}
 use borrow.Author.Needs.{needs}
 use Rattle.base.specs.Lists.{length-prefix}
-use Rattle.refusal.specs.Checked.{accepted, refused}
+use Rattle.refusal.specs.Checked.{refused}
 use Rattle.conditions.specs.declared.Condition.{Condition}
 use Rattle.licences.specs.declared.Fitter.the-variants.{First, Second}
 use Rattle.planning.specs.Expansion.{Entry}
 use Rattle.planning.specs.Columns.{entryAt}
 use Rattle.flat.specs.TreeBytes.{treeEntries}
-use Rattle.team_planner.specs.declared.TeamSize.{TeamSize}
-use Rattle.team_planner.specs.Team.{ofEach, fitterTree, teamSize, teamOf}
+use Rattle.team_planner.specs.Team.{ofEach, fitterTree, teamOf}
 use Rattle.team_planner.specs.TeamLaws.{team-sized, trees-refused, trees-written}
 use Rattle.team_planner.proofs.fit_trees.Statement.{statement}
 use Rattle.team_planner.proofs.fit_trees.Tie as tie
