@@ -437,7 +437,7 @@ enum bay_status {
     BAY_FAILURE = 1,
     BAY_RUNNING = 2,    /* with the number of the job to do next */
     BAY_UNSETTLED = 3,  /* with the mask of the facts to read first, to be held or to be absent */
-    BAY_WAITING = 4,    /* running, and no job is named: the other fitter has one to do */
+    BAY_WAITING = 4,    /* running, and no job is named: in a plan's tree the other fitter has one to do */
     BAY_NO_STATUS = 255 /* in the result of a refused tick; no word of an answer is this */
 };
 

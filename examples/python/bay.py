@@ -80,7 +80,7 @@ class Status(enum.IntEnum):
     FAILURE = 1
     RUNNING = 2
     UNSETTLED = 3
-    WAITING = 4  # running, and no job is named: the other fitter has one to do
+    WAITING = 4  # running, and no job is named: in a plan's tree the other fitter has one to do
 
 
 class Refused(Exception):

@@ -1,2 +1,5 @@
 -- definitions
 pub mod Runs
+pub mod Joint
+-- computations
+pub mod Cases

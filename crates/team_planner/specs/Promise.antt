@@ -17,12 +17,13 @@ use Rattle.licences.specs.declared.Fitter.the-variants.{First, Second}
 use Rattle.licences.specs.Licences.{FIRST, checkedLicences, ownerOf, owns, otherThan}
 use Rattle.table.specs.Table.{Table}
 use Rattle.table.specs.Read.{readTable}
-use Rattle.planning.specs.Sequence.{Answer, success, running, other, Reaches}
+use Rattle.planning.specs.Sequence.{Answer, Reaches}
 use Rattle.planning.specs.Expansion.{Entry}
 use Rattle.planning.specs.Demand.{CoveredBy, FirstIn, Fewest}
 use Rattle.tree.specs.declared.Status.{Status}
-use Rattle.tree.specs.declared.Status.the-variants.{Success, Failure, Running, Unsettled, Waiting}
+use Rattle.tree.specs.declared.Status.the-variants.{Success, Running, Waiting}
 use Rattle.tree.specs.TickBytes.{tickBytes, answered}
+use Rattle.runs.specs.Joint.{joint}
 use Rattle.flat.specs.TreeBytes.{treeBytes}
 use Rattle.flat.specs.FlatTick.{seenBy}
 use Rattle.expander.specs.Expands.{Columns, room}
@@ -32,44 +33,7 @@ use Rattle.team_planner.specs.declared.TeamSize.{TeamSize}
 use Rattle.team_planner.specs.declared.TeamPlanned.{TeamPlanned}
 use Rattle.team_planner.specs.Team.{TeamPlan, fitterTree, planTeam, teamOf, WritesTeam}
 
--- ---- the run of both trees: "in demand 3 the run of these trees ticks both on the same state until neither names a job"
-
--- what the other is told while one is given a job, waits, or is done: a job is taken up only where one is given it and the other waits, and the run ends
--- well only where both answer Success
-
-abbrev besideJob : (job : ℕ) → Status → Answer ℕ
-besideJob job Success = other
-besideJob job Failure = other
-besideJob job (Running another) = other
-besideJob job (Unsettled mask) = other
-besideJob job Waiting = running job
-
-abbrev besideWaiting : Status → Answer ℕ
-besideWaiting Success = other
-besideWaiting Failure = other
-besideWaiting (Running job) = running job
-besideWaiting (Unsettled mask) = other
-besideWaiting Waiting = other
-
-abbrev besideSuccess : Status → Answer ℕ
-besideSuccess Success = success
-besideSuccess Failure = other
-besideSuccess (Running job) = other
-besideSuccess (Unsettled mask) = other
-besideSuccess Waiting = other
-
-abbrev pub jointStatus : Status → Status → Answer ℕ
-jointStatus Success second = besideSuccess second
-jointStatus Failure second = other
-jointStatus (Running job) second = besideJob job second
-jointStatus (Unsettled mask) second = other
-jointStatus Waiting second = besideWaiting second
-
--- "Any other answer, a refusal too, .. ends the run."
-abbrev pub joint : Checked Status → Checked Status → Answer ℕ
-joint (accepted first) (accepted second) = jointStatus first second
-joint (accepted first) (refused number place) = other
-joint (refused number place) second = other
+-- ---- the run of both trees: it "ticks both on the same state until neither names a job"
 
 module _ (table : List ℕ) (tree : Fitter → List ℕ) where
   -- what a fitter is told in a state with unread 0

@@ -37,6 +37,7 @@ use Rattle.tree.specs.declared.Status.the-variants.{Success, Failure, Running, 
 use Rattle.tree.specs.Tick.{tickTree}
 use Rattle.tree.specs.TickBytes.{tickBytes, answered}
 use Rattle.runs.specs.Runs.{answerOfStatus}
+use Rattle.runs.specs.Joint.{jointStatus}
 use Rattle.flat.specs.TreeBytes.{ownTree, everyone}
 use Rattle.flat.specs.FlatTree.{treeOf}
 use Rattle.flat.specs.FlatTick.{leafStatus, seenBy}
@@ -50,7 +51,7 @@ use Rattle.team_planner.specs.declared.TeamSize.{TeamSize}
 use Rattle.team_planner.specs.declared.TeamPlanned.{TeamPlanned}
 use Rattle.team_planner.specs.Team.{TeamPlan, noTeam, fitterTree, teamSize, listAndTrees, teamBy, teamPlan, teamFor, afterTeam, planTeam, teamOf, WritesTeam}
 use Rattle.team_planner.specs.TeamLaws.{team-list, team-whole, team-told}
-use Rattle.team_planner.specs.Promise.{jointStatus, toldTo, jointOn, Shared, TeamWorks, NoTeamRoom, TeamKeeps, PlansTeam}
+use Rattle.team_planner.specs.Promise.{toldTo, jointOn, Shared, TeamWorks, NoTeamRoom, TeamKeeps, PlansTeam}
 
 -- ---- what both see of the team's answer, taken together
 
