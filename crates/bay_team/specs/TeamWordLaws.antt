@@ -18,5 +18,5 @@ pub team-answered : {table licences : List ℕ} {start : Reading} {before after 
     → PlansTeam table licences start before after lent trees r → answer ≡ words 5 teamWords (teamOf r)
     → TeamAnswered table licences start before after lent trees answer (getD answer 0 0)
 team-answered plans e =
-    let told = plans .writes .answer-and-trees .answer in
+    let told = plans .writes .answer-and-tree .answer in
     record { writes = rw told at (plans .writes); answers = answered-by (e ∙ ap (words 5 teamWords) told); keeps = plans .keeps }

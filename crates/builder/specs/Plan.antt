@@ -3,7 +3,7 @@
 -- Definitions only.
 use Prim.Native.Nat.{ℕ, _≤_}
 use mathlib.Core.Path.{_≡_}
-use mathlib.Core.Bool.{Bool, false}
+use mathlib.Core.Bool.{Bool}
 use mathlib.Core.List.{List, [], _++_}
 use lib.Dec.{leb}
 use lib.ListN.{length, getD, take, drop}
@@ -20,6 +20,7 @@ use Rattle.planning.specs.Facts.{Actions, unitDomain, factPlan}
 use Rattle.expander.specs.declared.Until.{Until}
 use Rattle.expander.specs.Expands.{Columns, columns, room, held, written, ifPaired, endedBy, listedBy}
 use Rattle.flat.specs.TreeBytes.{treeBytes}
+use Rattle.builder.specs.Finish.{PlanOf, Finish, noPlanOf, afterChecksOf, withTrees, finished, planned, WritesTrees, WritesLists}
 use Rattle.builder.specs.declared.Size.{Size}
 use Rattle.builder.specs.declared.Listed.{Listed}
 use Rattle.builder.specs.declared.Listed.the-variants as L
@@ -67,49 +68,41 @@ pub record WritesList (until : Until) (t : Table) (before after : Columns) (told
   pub list-stands : (n : ℕ) → told ≡ accepted n → Stands n after
   pub list-held : (n : ℕ) → told ≡ accepted n → listedBy until (tableList until t (room before)) ≡ accepted (held (used (pairs t) after) n)
 
--- ---- a plan: its answer, the entries that it stores, whether with both masks, and the bytes of the tree that it writes
+-- ---- a plan with one tree
 
--- an accepted answer tells what the kind of plan has to tell
-pub record Plan (Told : Type 0) : Type 0 where
-  pub answer : Checked Told
-  pub paired : Bool
-  pub list : List (Entry Condition)
-  pub tree : List ℕ
+abbrev pub Plan : Type 0 → Type 0
+Plan Told = PlanOf Told (List ℕ)
 
 module _ {Told : Type 0} where
-  -- nothing is stored, nothing written: "Every other refused call .. writes to nothing that is lent"
   abbrev pub noPlan : ℕ → ℕ → Plan Told
-  noPlan number place = record { answer = refused number place; paired = false; list = []; tree = [] }
+  noPlan = noPlanOf []
+
+  -- what is made of its list, where the lent tree has room for so many bytes
+  abbrev pub oneTree : (paired : Bool) → ℕ → (List (Entry Condition) → Told) → Finish Told (List ℕ)
+  oneTree paired room tell = record { tell = tell; trees = treeBytes paired; fit = λ l. leb (length (treeBytes paired l)) room; none = [] }
 
   module _ (paired : Bool) where
-    -- a list that is stored, with no tree
     abbrev pub listOnly : ℕ → ℕ → List (Entry Condition) → Plan Told
     listOnly number place l = record { answer = refused number place; paired = paired; list = l; tree = [] }
 
     abbrev pub listAndTree : Told → List (Entry Condition) → Plan Told
     listAndTree told l = record { answer = accepted told; paired = paired; list = l; tree = treeBytes paired l }
 
-    -- a list whose tree is due, where the lent tree has room for so many bytes. 12: "The lent tree is shorter than" the list's tree; "The place is ..
-    -- the entries stored for 10 to 12."
     abbrev pub withTree : ℕ → Told → List (Entry Condition) → Plan Told
-    withTree room told l = if leb (length (treeBytes paired l)) room then listAndTree told l else listOnly 12 (length l) l
+    withTree room told l = withTrees (oneTree paired room (λ m. told)) paired l
 
-    -- a list that ended as was asked, or 10 or 11
     abbrev pub finishedBy : ℕ → (List (Entry Condition) → Told) → List (Entry Condition) → Checked (List (Entry Condition)) → Plan Told
-    finishedBy room tell l (accepted m) = withTree room (tell m) m
-    finishedBy room tell l (refused number place) = listOnly number place l
+    finishedBy room tell = finished (oneTree paired room tell) paired
 
     abbrev pub planBy : Until → ℕ → (List (Entry Condition) → Told) → Outcome Condition → Plan Told
-    planBy until room tell o = finishedBy room tell (entries o) (listedBy until o)
+    planBy until room tell = planned (oneTree paired room tell) paired until
 
   -- the plan of a table that was read, with room for so many entries, by whether the list is paired, and so many bytes of a tree
   unfoldable pub tablePlan : Until → Table → (Bool → ℕ) → ℕ → (List (Entry Condition) → Told) → Plan Told
   tablePlan until t capacity room tell = planBy (pairs t) until room tell (tableList until t capacity)
 
-  -- the checks before it first
   abbrev pub afterChecks : Checked Table → (Table → Plan Told) → Plan Told
-  afterChecks (accepted t) plan = plan t
-  afterChecks (refused number place) plan = noPlan number place
+  afterChecks = afterChecksOf []
 
 -- what every list and its tree have to tell
 abbrev pub sizeOf : Bool → List (Entry Condition) → Size
@@ -127,13 +120,13 @@ builtOf (B.Refused x) = refusedBy x
 
 -- ---- what a plan leaves in every lent slice
 
-module _ {Told : Type 0} where
-  -- The answer is the plan's, and the tree stands at the front of the lent one.
-  pub record WritesTree (P : Plan Told) (lent tree : List ℕ) (told : Checked Told) : Type 0 where
-    pub answer : told ≡ P .answer
-    pub tree-written : tree ≡ P .tree ++ drop (length (P .tree)) lent
+-- the bytes stand at the front of what was lent
+abbrev pub AtFront : (lent after bytes : List ℕ) → Type 0
+AtFront lent after bytes = after ≡ bytes ++ drop (length bytes) lent
 
-  -- So does the list at the front of the list tables; "all else untouched".
-  pub record WritesPlan (P : Plan Told) (before after : Columns) (lent tree : List ℕ) (told : Checked Told) : Type 0 where
-    pub tables : after ≡ written (P .paired) (P .list) before
-    pub answer-and-tree : WritesTree P lent tree told
+module _ {Told : Type 0} where
+  abbrev pub WritesTree : Plan Told → (lent tree : List ℕ) → Checked Told → Type 0
+  WritesTree P lent tree told = WritesTrees (AtFront lent tree) P told
+
+  abbrev pub WritesPlan : Plan Told → (before after : Columns) → (lent tree : List ℕ) → Checked Told → Type 0
+  WritesPlan P before after lent tree told = WritesLists (AtFront lent tree) P before after told

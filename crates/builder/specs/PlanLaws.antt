@@ -5,11 +5,10 @@ use native.Mathlib.Omega.{arith}
 use mathlib.Core.Path.{_≡_, refl, sym, ap, _∙_, subst}
 use mathlib.Core.Bool.{Bool, true, false}
 use mathlib.Core.List.{List, [], _++_, append-nil}
-use mathlib.Core.Logic.{_⊎_, inl, inr}
 use lib.Dec.{leb}
 use lib.ListN.{length, take, drop, drop-of-length-le}
 use lib.Seq.{take-length}
-use borrow.Author.Tests.{le-leb, lt-leb, leb-false}
+use borrow.Author.Tests.{le-leb, lt-leb}
 use Rattle.base.specs.Bools.{if_then_else_}
 use Rattle.base.specs.Lists.{length-prefix}
 use Rattle.refusal.specs.Checked.{Checked, accepted, refused, andThen}
@@ -29,7 +28,8 @@ use Rattle.expander.specs.ExpandsLaws.{cut-paired, capacity-most, capacity-pair
 use Rattle.flat.specs.TreeBytes.{ownTree, everyone, treeBytes, treeEntries}
 use Rattle.flat.specs.FlatTreeLaws.{tree-columns}
 use Rattle.builder.specs.declared.Size.{Size}
-use Rattle.builder.specs.Plan.{tableActions, pairs, tableList, used, Stands, WritesList, Plan, noPlan, listOnly, listAndTree, withTree, finishedBy, planBy, tablePlan, sizeOf, WritesTree, WritesPlan}
+use Rattle.builder.specs.FinishLaws.{listed-entries, planned-list, WholeOf, planned-whole, trees-short, trees-fit, lists-refused, lists-finished, lists-untouched}
+use Rattle.builder.specs.Plan.{tableActions, pairs, tableList, used, Stands, WritesList, Plan, noPlan, oneTree, listOnly, listAndTree, withTree, finishedBy, planBy, tablePlan, sizeOf, AtFront, WritesTree, WritesPlan}
 
 -- ---- the tree of a list that stands in columns
 
@@ -38,11 +38,12 @@ module _ {Told : Type 0} (paired : Bool) (l : List (Entry Condition)) (told : To
   pub tree-short : length lent < length (treeBytes paired l) → lent ≡ tree → answer ≡ refused 12 (length l)
       → WritesTree (withTree paired (length lent) told l) lent tree answer
   tree-short h same a =
-      rw (lt-leb (length (treeBytes paired l)) (length lent) h) (record { answer = a; tree-written = sym same })
+      trees-short (oneTree paired (length lent) (λ m. told)) paired (AtFront lent tree) answer l (lt-leb (length (treeBytes paired l)) (length lent) h) (sym same) a
 
   pub tree-fits : length (treeBytes paired l) ≤ length lent → tree ≡ treeBytes paired l ++ drop (length (treeBytes paired l)) lent → answer ≡ accepted told
       → WritesTree (withTree paired (length lent) told l) lent tree answer
-  tree-fits h written a = rw (le-leb (length (treeBytes paired l)) (length lent) h) (record { answer = a; tree-written = written })
+  tree-fits h written a =
+      trees-fit (oneTree paired (length lent) (λ m. told)) paired (AtFront lent tree) answer l (le-leb (length (treeBytes paired l)) (length lent) h) written a
 
 pub sized : {n b : ℕ} (paired : Bool) (l : List (Entry Condition)) → length l ≡ n → b ≡ length (treeBytes paired l)
     → _≡_ {A = Checked Size} (accepted (record { entries = n; bytes = b; paired = paired })) (accepted (sizeOf paired l))
@@ -62,13 +63,6 @@ module _ {Told Other : Type 0} (paired : Bool) (room : ℕ) (l m : List (Entry C
       by-room false W = record { answer = ap (λ (t : Checked Told). andThen t (λ x. accepted (f x))) (W .answer); tree-written = W .tree-written }
 
 -- ---- how a list ended
-
-pub listed-entries : (until : Until) (o : Outcome Condition) (l : List (Entry Condition)) → listedBy until o ≡ accepted l → l ≡ entries o
-listed-entries until (full m) l e = absurd (not-both e)
-listed-entries (U.Covers start) (exhausted m) l e = absurd (not-both e)
-listed-entries U.Never (exhausted m) l e = sym (accepted-same e)
-listed-entries (U.Covers start) (covered m) l e = sym (accepted-same e)
-listed-entries U.Never (covered m) l e = sym (accepted-same e)
 
 -- a list that covers a start was ended by a condition that the start meets
 pub covered-told : (start : ℕ) (o : Outcome Condition) (l : List (Entry Condition)) → listedBy (U.Covers start) o ≡ accepted l → o ≡ covered l
@@ -128,23 +122,12 @@ module _ {paired : Bool} {A : Actions} {goal : Condition} {until : Until} {befor
 
 -- ---- the plan of a table
 
-module _ {Told : Type 0} (paired : Bool) (tell : List (Entry Condition) → Told) where
-  by-room : (b : Bool) (l : List (Entry Condition)) → let P = if b then listAndTree paired (tell l) l else listOnly paired 12 (length l) l in (P .list ≡ l) × (P .paired ≡ paired)
-  by-room true l = (refl, refl)
-  by-room false l = (refl, refl)
+module _ {Told : Type 0} (paired : Bool) (tell : List (Entry Condition) → Told) (until : Until) (room : ℕ) (o : Outcome Condition) where
+  pub plan-list : planBy paired until room tell o .list ≡ entries o
+  plan-list = planned-list (oneTree paired room tell) paired until o .0
 
-  finished-list : (room : ℕ) (l : List (Entry Condition)) (c : Checked (List (Entry Condition)))
-      → ((m : List (Entry Condition)) → c ≡ accepted m → m ≡ l) → (finishedBy paired room tell l c .list ≡ l) × (finishedBy paired room tell l c .paired ≡ paired)
-  finished-list room l (accepted m) same = let w = by-room (leb (length (treeBytes paired m)) room) m in (w .0 ∙ same m refl, w .1)
-  finished-list room l (refused n p) same = (refl, refl)
-
-  -- whatever its answer, the list is that of the expansion, with both masks where it is paired
-  module _ (until : Until) (room : ℕ) (o : Outcome Condition) where
-    pub plan-list : planBy paired until room tell o .list ≡ entries o
-    plan-list = finished-list room (entries o) (listedBy until o) (listed-entries until o) .0
-
-    pub plan-paired : planBy paired until room tell o .paired ≡ paired
-    plan-paired = finished-list room (entries o) (listedBy until o) (listed-entries until o) .1
+  pub plan-paired : planBy paired until room tell o .paired ≡ paired
+  plan-paired = planned-list (oneTree paired room tell) paired until o .1
 
 module _ {t : Table} {until : Until} {before after : Columns} {ended : Checked ℕ} (L : WritesList until t before after ended) where
   -- a list that did not end as was asked
@@ -159,27 +142,18 @@ module _ {Told : Type 0} {t : Table} {until : Until} {before after : Columns} {e
   abbrev outcome : Outcome Condition
   outcome = tableList until t (room before)
 
-  tables-are : after ≡ written (plan .paired) (plan .list) before
-  unfolding tablePlan
-  tables-are = L .tables ∙ rw (plan-list (pairs t) tell until (length lent) outcome, plan-paired (pairs t) tell until (length lent) outcome)
-
   -- 10 or 11: no tree is written
   pub writes-list : (n p : ℕ) → ended ≡ refused n p → told ≡ refused n p → WritesPlan plan before after lent lent told
   unfolding tablePlan
   writes-list n p e a =
-      record { tables = tables-are; answer-and-tree = rw here (record { answer = a; tree-written = refl }) }
-    where
-      here : plan ≡ listOnly (pairs t) n p (entries outcome)
-      here = ap (finishedBy (pairs t) (length lent) tell (entries outcome)) (list-refused L n p e)
+      lists-refused (oneTree (pairs t) (length lent) tell) (pairs t) (AtFront lent lent) told until outcome before after (L .tables) n p (list-refused L n p e) refl a
 
   writes-tree : (n : ℕ) → ended ≡ accepted n → (tree : List ℕ)
       → WritesTree (withTree (pairs t) (length lent) (tell (held (used (pairs t) after) n)) (held (used (pairs t) after) n)) lent tree told
       → WritesPlan plan before after lent tree told
   unfolding tablePlan
-  writes-tree n e tree W = record { tables = tables-are; answer-and-tree = rw here W }
-    where
-      here : plan ≡ withTree (pairs t) (length lent) (tell (held (used (pairs t) after) n)) (held (used (pairs t) after) n)
-      here = ap (finishedBy (pairs t) (length lent) tell (entries outcome)) (L .list-held n e)
+  writes-tree n e tree W =
+      lists-finished (oneTree (pairs t) (length lent) tell) (pairs t) (AtFront lent tree) told until outcome before after (L .tables) (held (used (pairs t) after) n) (L .list-held n e) W
 
 -- the entries as far as a tree shows them
 abbrev pub drawn : Columns → ℕ → List (Entry Condition)
@@ -221,42 +195,11 @@ writes-built {t} {after = after} L lent told n e tree W =
 
 module _ {Told : Type 0} (paired : Bool) (until : Until) (room : ℕ) (tell : List (Entry Condition) → Told) (o : Outcome Condition) where
   -- an accepted answer: its list, which ended as was asked, and whose tree fits
-  pub record Whole (p : Told) : Type 0 where
-    pub list : List (Entry Condition)
-    pub listed : listedBy until o ≡ accepted list
-    pub plan-is : planBy paired until room tell o ≡ listAndTree paired (tell list) list
-    pub told-is : p ≡ tell list
-
-  tree-told : (fits : Bool) (l : List (Entry Condition)) (p : Told) → (if fits then listAndTree paired (tell l) l else listOnly paired 12 (length l) l) .answer ≡ accepted p
-      → ((if fits then listAndTree paired (tell l) l else listOnly paired 12 (length l) l) ≡ listAndTree paired (tell l) l) × (p ≡ tell l)
-  tree-told true l p a = (refl, sym (accepted-same a))
-  tree-told false l p a = absurd (not-both a)
+  abbrev pub Whole : Told → Type 0
+  Whole = WholeOf (oneTree paired room tell) paired until o
 
   pub whole-told : (p : Told) → planBy paired until room tell o .answer ≡ accepted p → Whole p
-  whole-told p a = by-end (listedBy until o) refl a
-    where
-      by-end : (c : Checked (List (Entry Condition))) → listedBy until o ≡ c → finishedBy paired room tell (entries o) c .answer ≡ accepted p → Whole p
-      by-end (accepted l) e a =
-          let w = tree-told (leb (length (treeBytes paired l)) room) l p a in
-          record { list = l; listed = e; plan-is = ap (finishedBy paired room tell (entries o)) e ∙ w .0; told-is = w .1 }
-      by-end (refused n q) e a = absurd (not-both a)
-
-  -- a refusal: the list did not end as was asked, or its tree does not fit
-  abbrev pub Unfinished : ℕ → ℕ → Type 0
-  Unfinished n p =
-      (listedBy until o ≡ refused n p) ⊎ ((l : List (Entry Condition)) × (listedBy until o ≡ accepted l) × (n ≡ 12) × (p ≡ length l) × (room < length (treeBytes paired l)))
-
-  pub refused-told : (n p : ℕ) → planBy paired until room tell o .answer ≡ refused n p → Unfinished n p
-  refused-told n p a = by-end (listedBy until o) refl a
-    where
-      by-room : (l : List (Entry Condition)) → listedBy until o ≡ accepted l → (fits : Bool) → leb (length (treeBytes paired l)) room ≡ fits
-          → (if fits then listAndTree paired (tell l) l else listOnly paired 12 (length l) l) .answer ≡ refused n p → Unfinished n p
-      by-room l e true f a = absurd (not-both (sym a))
-      by-room l e false f a = inr (l, e, cc, cc, omega (arith, leb-false, f))
-
-      by-end : (c : Checked (List (Entry Condition))) → listedBy until o ≡ c → finishedBy paired room tell (entries o) c .answer ≡ refused n p → Unfinished n p
-      by-end (accepted l) e a = by-room l e (leb (length (treeBytes paired l)) room) refl a
-      by-end (refused m q) e a = let x : m ≡ n = cc in let y : q ≡ p = cc in inl (rw (x, y) at e)
+  whole-told = planned-whole (oneTree paired room tell) paired until o
 
 -- A plan that tells something else of the same list leaves the same in every lent slice.
 module _ {Told Other : Type 0} (paired : Bool) (until : Until) (room : ℕ) (tell : List (Entry Condition) → Told) (other : List (Entry Condition) → Other)
@@ -299,7 +242,7 @@ module _ {Told Other : Type 0} (paired : Bool) (until : Until) (room : ℕ) (tel
 -- nothing is written
 pub writes-nothing : {Told : Type 0} (n p : ℕ) (before : Columns) (lent : List ℕ) (told : Checked Told) → told ≡ refused n p
     → WritesPlan (noPlan n p) before before lent lent told
-writes-nothing n p before lent told a = record { tables = refl; answer-and-tree = record { answer = a; tree-written = refl } }
+writes-nothing n p before lent told a = lists-untouched (AtFront lent lent) [] refl n p before told a
 
 -- ---- the tables' capacity is the papers'
 
@@ -331,13 +274,13 @@ module _ (before : Columns) (conditions absences actions parents depths lent : L
   abbrev Rest : Bool → Type 0
   Rest paired = absences ≡ lent ++ drop (ifPaired paired (length (before .absences))) (before .absences)
 
+  all-lent : lent ++ drop (length (before .absences)) (before .absences) ≡ lent
+  all-lent = rw (drop-of-length-le (before .absences) {i = length (before .absences)} (omega arith), append-nil)
+
   tables-used : (paired : Bool) (l : List (Entry Condition)) → cut ≡ written paired l (used paired before) → Rest paired → after ≡ written paired l before
   tables-used true l w q =
       ap (λ (xs : List ℕ). columns conditions xs actions parents depths) (q ∙ all-lent) ∙ w
       ∙ ap (λ (xs : List ℕ). written true l (columns (before .conditions) xs (before .actions) (before .parents) (before .depths))) (take-length (before .absences))
-    where
-      all-lent : lent ++ drop (length (before .absences)) (before .absences) ≡ lent
-      all-lent = rw (drop-of-length-le (before .absences) {i = length (before .absences)} (omega arith), append-nil)
   tables-used false l w q =
       let kept : absences ≡ before .absences = q ∙ ap (λ (xs : List ℕ). xs ++ before .absences) (ap (λ (t : Columns). t .absences) w) in
       λ i. columns (w i .conditions) (kept i) (w i .actions) (w i .parents) (w i .depths)
@@ -345,9 +288,6 @@ module _ (before : Columns) (conditions absences actions parents depths lent : L
   cut-used : (paired : Bool) (l : List (Entry Condition)) → cut ≡ written paired l (used paired before) → Rest paired → cut ≡ used paired after
   cut-used true l w q =
       ap (λ (xs : List ℕ). columns conditions xs actions parents depths) (sym (q ∙ all-lent) ∙ sym (take-length absences))
-    where
-      all-lent : lent ++ drop (length (before .absences)) (before .absences) ≡ lent
-      all-lent = rw (drop-of-length-le (before .absences) {i = length (before .absences)} (omega arith), append-nil)
   cut-used false l w q = ap (λ (xs : List ℕ). columns conditions xs actions parents depths) (ap (λ (t : Columns). t .absences) w)
 
   pub writes-lent : (t : Table) (until : Until) (x : Expanded) (ended : Checked ℕ) (n : ℕ) → n ≡ ifPaired (pairs t) (length (before .absences))

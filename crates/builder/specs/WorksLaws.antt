@@ -8,6 +8,7 @@ use mathlib.Core.List.{List, [], _∷_}
 use mathlib.Core.Logic.{_↔_, _⊎_, inl, inr, ⊎-elim}
 use lib.Dec.{T, leb, leb→le}
 use lib.ListN.{length}
+use borrow.Author.Tests.{leb-false}
 use Rattle.base.specs.Bools.{holds, is-true, and-intro, and-right}
 use Rattle.masks.specs.Sets.{intersects, within}
 use Rattle.masks.specs.Laws.{within-empty}
@@ -49,8 +50,9 @@ use Rattle.flat.specs.FlatTickLaws.{tick-agrees, unsettled-differ, action-named
 use Rattle.expander.specs.declared.Until.{Until}
 use Rattle.expander.specs.declared.Until.the-variants as U
 use Rattle.expander.specs.Expands.{endedBy, listedBy}
-use Rattle.builder.specs.Plan.{jobOf, tableActions, tableDomain, pairs, planBy}
-use Rattle.builder.specs.PlanLaws.{listed-entries, plan-list, refused-told}
+use Rattle.builder.specs.Plan.{jobOf, tableActions, tableDomain, pairs, oneTree, planBy}
+use Rattle.builder.specs.Finish.{Finish, planned}
+use Rattle.builder.specs.FinishLaws.{listed-entries, planned-list, planned-refused}
 use Rattle.builder.specs.RowLaws.{no-absent}
 use Rattle.builder.specs.Works.{Ticks, Works, FewestJobs, Irredundant, NoRoom}
 
@@ -240,7 +242,7 @@ module _ (table : List ℕ) (b : AreBytes table) (t : Table) (e : readTable tabl
   abbrev NoWay : ℕ → ℕ → Type 0
   NoWay n p = (n ≡ 11) × (p ≡ length (entries ending)) × (listedBy until ending ≡ refused n p) × ((l : List (Entry Condition)) × (ending ≡ exhausted l))
 
-  pub list-stops : (n p : ℕ) → listedBy until ending ≡ refused n p → ((n ≡ 10) × (p ≡ capacity)) ⊎ NoWay n p
+  list-stops : (n p : ℕ) → listedBy until ending ≡ refused n p → ((n ≡ 10) × (p ≡ capacity)) ⊎ NoWay n p
   list-stops n p e₀ = by-end until ending refl e₀
     where
       by-end : (u : Until) (o : Outcome Condition) → ending ≡ o → listedBy u o ≡ refused n p → ((n ≡ 10) × (p ≡ capacity)) ⊎ NoWay n p
@@ -252,11 +254,18 @@ module _ (table : List ℕ) (b : AreBytes table) (t : Table) (e : readTable tabl
       by-end U.Never (exhausted l) q e = absurd (not-both (sym e))
       by-end u (covered l) q e = absurd (not-both (sym e))
 
+  -- of any kind of plan: it is one of these, or its trees do not fit
+  pub kind-stops : {Told Trees : Type 0} (F : Finish Told Trees) (n p : ℕ) → planned F paired until ending .answer ≡ refused n p
+      → NoWay n p ⊎ ((n ≡ 10) × (p ≡ capacity))
+      ⊎ ((n ≡ 12) × (p ≡ length (planned F paired until ending .list)) × (F .fit (planned F paired until ending .list) ≡ false))
+  kind-stops F n p a =
+      let same = planned-list F paired until ending .0 in
+      ⊎-elim (λ e. ⊎-elim (λ f. inr (inl f)) inl (list-stops n p e))
+      (λ w. let q = listed-entries until ending (w .0) (w .1) ∙ sym same in inr (inr (w .2, w .3 ∙ ap length q, rw q at (w .4))))
+      (planned-refused F paired until ending n p a)
+
   module _ {Told : Type 0} (room : ℕ) (tell : List (Entry Condition) → Told) where
     pub plan-stops : (n p : ℕ) → planBy paired until room tell ending .answer ≡ refused n p
         → NoWay n p ⊎ NoRoom paired capacity room (planBy paired until room tell ending .list) n p
     plan-stops n p a =
-        let same = plan-list paired tell until room ending in
-        ⊎-elim (λ e. ⊎-elim (λ f. inr (inl f)) inl (list-stops n p e))
-        (λ w. let q = listed-entries until ending (w .0) (w .1) ∙ sym same in inr (inr (w .2, w .3 ∙ ap length q, rw q at (w .4))))
-        (refused-told paired until room tell ending n p a)
+        ⊎-elim inl (λ f. inr (⊎-elim inl (λ g. inr (g .0, g .1, leb-false _ _ (g .2))) f)) (kind-stops (oneTree paired room tell) n p a)

@@ -39,7 +39,8 @@ use Rattle.builder.specs.declared.Size.{Size}
 use Rattle.tree.specs.TickBytes.{tickChecked, tickBytes}
 use Rattle.runs.specs.Runs.{runAnswer, tickOn}
 use Rattle.builder.specs.Plan.{tableActions, tableDomain, pairs, noPlan, tablePlan, sizeOf, WritesPlan}
-use Rattle.builder.specs.PlanLaws.{covered-told, columns-few, whole-told, listed-entries, plan-list, plan-paired, writes-other, writes-refused}
+use Rattle.builder.specs.FinishLaws.{listed-entries}
+use Rattle.builder.specs.PlanLaws.{covered-told, columns-few, whole-told, plan-list, plan-paired, writes-other, writes-refused}
 use Rattle.builder.specs.WorksLaws.{list-works}
 use Rattle.planner.specs.declared.Summary.{Summary}
 use Rattle.planner.specs.Plan.{wayOf, secondsOf, summaryOf, startFor, planFor}

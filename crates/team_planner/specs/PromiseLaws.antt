@@ -42,15 +42,17 @@ use Rattle.flat.specs.TreeBytes.{ownTree, everyone}
 use Rattle.flat.specs.FlatTree.{treeOf}
 use Rattle.flat.specs.FlatTick.{leafStatus, seenBy}
 use Rattle.expander.specs.declared.Until.the-variants.{Covers}
-use Rattle.expander.specs.Expands.{Columns, room, listedBy}
+use Rattle.expander.specs.Expands.{Columns, room}
 use Rattle.builder.specs.Plan.{tableActions, tableDomain, pairs, tableList}
-use Rattle.builder.specs.PlanLaws.{covered-told, columns-few, listed-entries}
+use Rattle.builder.specs.Finish.{Finish, noPlanOf, afterChecksOf, listAndTrees}
+use Rattle.builder.specs.FinishLaws.{planned-list, planned-whole}
+use Rattle.builder.specs.PlanLaws.{covered-told, columns-few}
 use Rattle.builder.specs.Works.{Works, Irredundant}
-use Rattle.builder.specs.WorksLaws.{separate, list-irredundant, goal-covered, list-fewest, list-answer, list-serves, state-agrees, list-stops}
+use Rattle.builder.specs.WorksLaws.{separate, list-irredundant, goal-covered, list-fewest, list-answer, list-serves, state-agrees, kind-stops}
 use Rattle.team_planner.specs.declared.TeamSize.{TeamSize}
 use Rattle.team_planner.specs.declared.TeamPlanned.{TeamPlanned}
-use Rattle.team_planner.specs.Team.{TeamPlan, noTeam, fitterTree, teamSize, listAndTrees, teamBy, teamPlan, teamFor, afterTeam, planTeam, teamOf, WritesTeam}
-use Rattle.team_planner.specs.TeamLaws.{team-list, team-whole, team-told}
+use Rattle.team_planner.specs.Team.{TeamPlan, noTrees, fitterTree, teamSize, twoTrees, teamBy, teamPlan, teamFor, planTeam, teamOf, WritesTeam}
+use Rattle.team_planner.specs.TeamLaws.{not-both-fit}
 use Rattle.team_planner.specs.Promise.{toldTo, jointOn, Shared, TeamWorks, NoTeamRoom, TeamKeeps, PlansTeam}
 
 -- ---- what both see of the team's answer, taken together
@@ -188,21 +190,24 @@ module _ (table : List ℕ) (b : AreBytes table) (t : Table) (e : readTable tabl
   abbrev outcome : Outcome Condition
   outcome = tableList (Covers (start .held)) t capacity
 
+  abbrev kind : Finish TeamSize (Fitter → List ℕ)
+  kind = twoTrees licences (pairs t) space
+
   abbrev whole : TeamPlan
   whole = teamBy licences t (start .held) space outcome
 
   -- what holds of the plan for sound licences and a sound start holds of every plan, where it holds of none
-  by-checks : (P : TeamPlan → Type 0) → ((n p : ℕ) → (n ≡ 24) ⊎ (n ≡ 8) ⊎ (n ≡ 9) → P (noTeam n p)) → P whole → P (planTeam table licences start capacity space)
+  by-checks : (P : TeamPlan → Type 0) → ((n p : ℕ) → (n ≡ 24) ⊎ (n ≡ 8) ⊎ (n ≡ 9) → P (noPlanOf noTrees n p)) → P whole → P (planTeam table licences start capacity space)
   unfolding planTeam teamFor teamPlan
   by-checks P none w = rw e (by-licences (checkedLicences (length (t .jobs)) licences) refl)
     where
-      by-start : P (afterTeam (andThen (checkedStart (t .facts) start) λ r. accepted t) λ t. teamPlan licences t (start .held) capacity space)
+      by-start : P (afterChecksOf noTrees (andThen (checkedStart (t .facts) start) λ r. accepted t) λ t. teamPlan licences t (start .held) capacity space)
       by-start =
-          start-cases (t .facts) start (λ c. P (afterTeam (andThen c λ r. accepted t) λ t. teamPlan licences t (start .held) capacity space)) (none 8 0 (inr (inl refl)))
+          start-cases (t .facts) start (λ c. P (afterChecksOf noTrees (andThen c λ r. accepted t) λ t. teamPlan licences t (start .held) capacity space)) (none 8 0 (inr (inl refl)))
           (none 9 0 (inr (inr refl))) (λ s. w)
 
       by-licences : (c : Checked (List ℕ)) → checkedLicences (length (t .jobs)) licences ≡ c
-          → P (afterTeam (andThen c λ row. andThen (checkedStart (t .facts) start) λ r. accepted t) λ t. teamPlan licences t (start .held) capacity space)
+          → P (afterChecksOf noTrees (andThen c λ row. andThen (checkedStart (t .facts) start) λ r. accepted t) λ t. teamPlan licences t (start .held) capacity space)
       by-licences (accepted row) q = by-start
       by-licences (refused n p) q = none n p (inl (licences-number (length (t .jobs)) licences n p q))
 
@@ -211,9 +216,10 @@ module _ (table : List ℕ) (b : AreBytes table) (t : Table) (e : readTable tabl
   unfolding planTeam teamFor teamPlan
   checked l s u = rw (e, l, ← start-sound (t .facts) start s u)
 
-  ended : (p : TeamSize) → whole .answer ≡ accepted p → (l : List (Entry Condition)) × (outcome ≡ covered l) × (whole ≡ listAndTrees licences (pairs t) l) × (p ≡ teamSize licences (pairs t) l)
+  ended : (p : TeamSize) → whole .answer ≡ accepted p
+      → (l : List (Entry Condition)) × (outcome ≡ covered l) × (whole ≡ listAndTrees kind (pairs t) l) × (p ≡ teamSize licences (pairs t) l)
   ended p a =
-      let w = team-whole licences t (start .held) space outcome p a in
+      let w = planned-whole kind (pairs t) (Covers (start .held)) outcome p a in
       (w .list, covered-told (start .held) outcome (w .list) (w .listed), w .plan-is, w .told-is)
 
   works : (p : TeamSize) → whole .answer ≡ accepted p → TeamWorks t table licences (whole .list) (whole .tree)
@@ -228,27 +234,17 @@ module _ (table : List ℕ) (b : AreBytes table) (t : Table) (e : readTable tabl
       let n = fact-start-first (tableActions t) (plain (t .goal)) most (start .held) l c in
       rw is (n .0, ap (λ (x : TeamSize). x .entries) told ∙ n .1, n .2)
 
-  -- a list that did not end as was asked is full, or there is no way
-  list-ends : (n p : ℕ) → listedBy (Covers (start .held)) outcome ≡ refused n p
-      → ((n ≡ 10) × (p ≡ most)) ⊎ ((n ≡ 11) × (p ≡ length (entries outcome)) × ((w : List ℕ) → Reaches (tableDomain t) (start .held) w → ⊥))
-  list-ends n p a =
-      ⊎-elim inl
-      (λ f. inr (f .0, f .1, fact-no-way (tableActions t) (plain (t .goal)) most (start .held) (separate table b t e most (Covers (start .held))) (f .3 .0) (f .3 .1)))
-      (list-stops table b t e most (Covers (start .held)) n p a)
-
   no-way : (p : ℕ) → whole .answer ≡ refused 11 p → (w : List ℕ) → Reaches (tableDomain t) (start .held) w → ⊥
   no-way p a =
-      ⊎-elim (λ f. ⊎-elim (λ g. absurd (omega (arith, g .0))) (λ g. g .2) (list-ends 11 p f)) (λ f. absurd (omega (arith, f .2)))
-      (team-told licences t (start .held) space outcome 11 p a)
+      ⊎-elim (λ f. fact-no-way (tableActions t) (plain (t .goal)) most (start .held) (separate table b t e most (Covers (start .held))) (f .3 .0) (f .3 .1))
+      (λ f. absurd (⊎-elim (λ g. omega (arith, g .0)) (λ g. omega (arith, g .0)) f))
+      (kind-stops table b t e most (Covers (start .held)) kind 11 p a)
 
   stops : (n p : ℕ) → whole .answer ≡ refused n p → ((n ≡ 11) × (p ≡ length (whole .list))) ⊎ NoTeamRoom licences (pairs t) most space (whole .list) n p
   stops n p a =
-      let same = team-list licences t (start .held) space outcome .0 in
-      ⊎-elim (λ f. ⊎-elim (λ g. inr (inl g)) (λ g. inl (g .0, g .1 ∙ ap length (sym same))) (list-ends n p f))
-      (λ f.
-      let l = listed-entries (Covers (start .held)) outcome (f .0) (f .1) ∙ sym same in
-      inr (inr (f .2, f .3 ∙ ap length l, (f .4 .0, rw l at (f .4 .1)))))
-      (team-told licences t (start .held) space outcome n p a)
+      ⊎-elim (λ f. inl (f .0, f .1 ∙ ap length (sym (planned-list kind (pairs t) (Covers (start .held)) outcome .0))))
+      (λ f. inr (⊎-elim inl (λ g. inr (g .0, g .1, not-both-fit licences (pairs t) (whole .list) space (g .2))) f))
+      (kind-stops table b t e most (Covers (start .held)) kind n p a)
 
   pub every-team : TeamKeeps t table licences start capacity space (planTeam table licences start capacity space)
   every-team =
@@ -263,7 +259,7 @@ module _ (table : List ℕ) (b : AreBytes table) (t : Table) (e : readTable tabl
             (λ n k h a. absurd (not-both a)) (begins p);
         irredundant =
             by-checks (λ P. Irredundant t (P .list)) (λ n k h plain i l. absurd (not-suc-le-zero l))
-            (rw (team-list licences t (start .held) space outcome .0) (list-irredundant table b t e most (Covers (start .held))));
+            (rw (planned-list kind (pairs t) (Covers (start .held)) outcome .0) (list-irredundant table b t e most (Covers (start .held))));
       }
     where
       not-11 : (n k p : ℕ) → (n ≡ 24) ⊎ (n ≡ 8) ⊎ (n ≡ 9) → _≡_ {A = Checked TeamSize} (refused n k) (refused 11 p) → ⊥

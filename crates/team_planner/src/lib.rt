@@ -16,7 +16,8 @@ ghost use Rattle.table.specs.Read.{headed, tableReadOf};
 ghost use Rattle.tree.specs.ReadTree.{maxChildren};
 ghost use Rattle.expander.specs.Expands.{columns};
 ghost use Rattle.flat.specs.TreeBytes.{treeEntries};
-ghost use Rattle.team_planner.specs.Team.{ofEach, fitterTree, withTrees, teamFor, teamOf, WritesTrees};
+ghost use Rattle.builder.specs.Finish.{withTrees, WritesTrees};
+ghost use Rattle.team_planner.specs.Team.{ofEach, fitterTree, twoTrees, teamFor, teamOf, BothAtFront};
 ghost use Rattle.team_planner.specs.Promise.{PlansTeam};
 
 // The entries of a list and the bytes of both fitters' trees, and whether all hold second masks.
@@ -79,10 +80,9 @@ fn fit_trees(
     second: &mut [u8],
 ) -> TeamPlanned
     requires { ⌜ (1 ≤ n) × (n ≤ maxChildren) × (n ≤ length (now actions)) ⌝ }
-    ensures { λ r. ⌜ WritesTrees
-        (withTrees (now (licences .entry)) paired (λ fitter. length (ofEach (now (first .entry)) (now (second .entry)) fitter))
-        (treeEntries (now (conditions .entry)) (now (absences .entry)) (now (actions .entry)) n))
-        (ofEach (now (first .entry)) (now (second .entry))) (ofEach (now (first .exit)) (now (second .exit))) (teamOf r) ⌝ }
+    ensures { λ r. ⌜ WritesTrees (BothAtFront (ofEach (now (first .entry)) (now (second .entry))) (ofEach (now (first .exit)) (now (second .exit))))
+        (withTrees (twoTrees (now (licences .entry)) paired (λ fitter. length (ofEach (now (first .entry)) (now (second .entry)) fitter))) paired
+        (treeEntries (now (conditions .entry)) (now (absences .entry)) (now (actions .entry)) n)) (teamOf r) ⌝ }
 {
     let first_bytes = size_for(paired, n, actions, licences, Fitter::First);
     let second_bytes = size_for(paired, n, actions, licences, Fitter::Second);

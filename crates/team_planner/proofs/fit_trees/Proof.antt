@@ -13,7 +13,7 @@ use Rattle.planning.specs.Expansion.{Entry}
 use Rattle.planning.specs.Columns.{entryAt}
 use Rattle.flat.specs.TreeBytes.{treeEntries}
 use Rattle.team_planner.specs.Team.{ofEach, fitterTree, teamOf}
-use Rattle.team_planner.specs.TeamLaws.{team-sized, trees-refused, trees-written}
+use Rattle.team_planner.specs.TeamLaws.{team-sized, team-short, team-fits}
 use Rattle.team_planner.proofs.fit_trees.Statement.{statement}
 use Rattle.team_planner.proofs.fit_trees.Tie as tie
 
@@ -64,7 +64,7 @@ returns : tie.Need-returns
 returns c =
     let k = c .before .before in
     let a = start-of k .args in
-    trees-refused (a .licences .now) (a .paired) (list-of k) (ofEach (a .first .now) (a .second .now)) _ First (omega (arith, first-size k, c .before .if1 .taken))
+    team-short (a .licences .now) (a .paired) (list-of k) (ofEach (a .first .now) (a .second .now)) _ First (omega (arith, first-size k, c .before .if1 .taken))
     (ap teamOf (c .too-short .ensures) ∙ ap (refused 12) (sym (count k)))
 
 too-short-requires-2 : tie.Need-too-short-requires-2
@@ -74,7 +74,7 @@ returns-2 : tie.Need-returns-2
 returns-2 c =
     let k = c .before .before .before in
     let a = start-of k .args in
-    trees-refused (a .licences .now) (a .paired) (list-of k) (ofEach (a .first .now) (a .second .now)) _ Second (omega (arith, second-size k, c .before .if2 .taken))
+    team-short (a .licences .now) (a .paired) (list-of k) (ofEach (a .first .now) (a .second .now)) _ Second (omega (arith, second-size k, c .before .if2 .taken))
     (ap teamOf (c .too-short2 .ensures) ∙ ap (refused 12) (sym (count k)))
 
 write-tree-requires : tie.Need-write-tree-requires
@@ -104,7 +104,7 @@ returns-3 c =
     let f = fit-of first in
     let k = measured-of f in
     let a = start-of k .args in
-    trees-written (a .licences .now) (a .paired) (list-of k) (ofEach (a .first .now) (a .second .now)) _ _ _ (omega (arith, first-size k, f .before .if1 .left))
+    team-fits (a .licences .now) (a .paired) (list-of k) (ofEach (a .first .now) (a .second .now)) _ _ _ (omega (arith, first-size k, f .before .if1 .left))
     (omega (arith, second-size k, f .if2 .left)) (team-sized (a .licences .now) (a .paired) (list-of k) (count k) (first-size k) (second-size k)) (first .write-tree .ensures) (second .write-tree2 .ensures)
 
 pub fit-trees-spec : {M : Type 1} → statement M
