@@ -49,6 +49,7 @@ module _ (table : List ℕ) (tree : Fitter → List ℕ) where
     pub job : ℕ
     pub known : job < jobs
     pub owner : Fitter
+    -- an accepted plan has a licence for each job, so that what stands past the row's end does not matter
     pub is-owner : owner ≡ ownerOf (getD licences job FIRST)
     pub given : toldTo owner s ≡ accepted (Running job)
     pub waits : toldTo (otherThan owner) s ≡ accepted Waiting
