@@ -25,7 +25,8 @@ use Rattle.tree.specs.declared.Status.{Status}
 use Rattle.tree.specs.declared.Status.the-variants.{Success, Failure, Running, Unsettled, Waiting}
 use Rattle.batch_walk.specs.declared.Numbered.{Numbered}
 use Rattle.batch_walk.specs.Batch.{readingAt, AnswerRows}
-use Rattle.batch_walk.specs.Steps.{numbered, numberedAt, setNumbered, overRows, metAt, isGoing, asked, isMissed, oneIf, stops, stepped, Asks, AsksAll, mayMeet, NextAsked, afterEntry, stopsAt, nextStatus, isFailure, answerAfter, WalkedRows, statusAfter, rowsAfter, goingAfter}
+use Rattle.batch_walk.specs.Steps.{numbered, numberedAt, setNumbered, overRows, metAt, isGoing, asked, isMissed, oneIf, stops, stepped, Asks}
+use Rattle.batch_walk.specs.Steps.{AsksAll, mayMeet, NextAsked, afterEntry, stopsAt, nextStatus, isFailure, answerAfter, WalkedRows, statusAfter, rowsAfter, goingAfter}
 
 -- ---- what a met entry answers
 

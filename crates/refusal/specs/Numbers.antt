@@ -2,7 +2,8 @@
 -- Assumes nothing.
 use Prim.Native.Nat.{ℕ}
 use Rattle.refusal.specs.declared.Reason.{Reason}
-use Rattle.refusal.specs.declared.Reason.the-variants.{TableCut, CommandNotAllowed, FactCountOutOfRange, TooManyJobs, TableMaskOutOfRange, EffectsOverlap, BytesAfterTable, BadReading, StartUnread, ListFull, NoWay, TreeTooShort, BadTree, TreeTooDeep, TreeOperandOutOfRange, NoSuchJob, NeedNotHeld, CardExhausted, JobTooLong, NeedsContradict, BadLicences}
+use Rattle.refusal.specs.declared.Reason.the-variants.{TableCut, CommandNotAllowed, FactCountOutOfRange, TooManyJobs, TableMaskOutOfRange, EffectsOverlap, BytesAfterTable, BadReading, StartUnread, ListFull, NoWay}
+use Rattle.refusal.specs.declared.Reason.the-variants.{TreeTooShort, BadTree, TreeTooDeep, TreeOperandOutOfRange, NoSuchJob, NeedNotHeld, CardExhausted, JobTooLong, NeedsContradict, BadLicences}
 
 abbrev pub numberOf : Reason → ℕ
 numberOf TableCut = 1

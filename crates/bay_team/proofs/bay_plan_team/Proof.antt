@@ -5,6 +5,10 @@ use Rattle.bay_team.specs.TeamWordLaws.{team-answered}
 use Rattle.bay_team.proofs.bay_plan_team.Statement.{statement}
 use Rattle.bay_team.proofs.bay_plan_team.Tie as tie
 
+-- the plan is made, and all that was lent is back
+abbrev planned-of : tie.After-team-words → tie.After-plan-team
+planned-of c = c .before .before .before .before .before .before .before .before .before .before .before .before .before .before .before
+
 plan-team-requires : tie.Need-plan-team-requires
 plan-team-requires c κs = search needs
 
@@ -36,9 +40,7 @@ same-length-7 : tie.Need-same-length-7
 same-length-7 c = search needs
 
 returns : tie.Need-returns
-returns c =
-    let planned = c .before .before .before .before .before .before .before .before .before .before .before .before .before .before .before .plan-team in
-    team-answered (planned .ensures) (c .team-words .ensures)
+returns c = team-answered (planned-of c .plan-team .ensures) (c .team-words .ensures)
 
 pub bay-plan-team-spec : {M : Type 1} → statement M
 bay-plan-team-spec =
