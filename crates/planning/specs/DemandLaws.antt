@@ -9,6 +9,7 @@ use native.Mathlib.Nat.{not-suc-le-zero}
 use native.Mathlib.Omega.{arith}
 use lib.Dec.{T, not-T}
 use lib.ListN.{length}
+use Rattle.base.specs.Lists.{prefix}
 use Rattle.planning.specs.Domain.{Domain, Laws, Plannable}
 use Rattle.planning.specs.Sequence.{Answer, running, total, Reaches, Shortest, Run}
 use Rattle.planning.specs.Listing.{path, answerAt, Good, Fresh, Optimal}
@@ -17,7 +18,7 @@ use Rattle.planning.specs.Theory.{run-unique, run-named, run-transfer, f
 use Rattle.planning.specs.Expansion.{Entry, Outcome, exhausted, covered, full, entries, entryIn, expand, listing}
 use Rattle.planning.specs.Progress.{Progress, Sound}
 use Rattle.planning.specs.ProgressLaws.{exhausted-closed, entry-closed}
-use Rattle.planning.specs.ExpansionLaws.{expand-sound}
+use Rattle.planning.specs.ExpansionLaws.{expand-sound, expand-cut}
 use Rattle.planning.specs.Demand.{FirstIn, CoveredBy, tickLater, tickList, Fewest}
 
 module _ {State Condition : Type 0} (D : Domain State Condition ℕ) where
@@ -131,6 +132,15 @@ module _ {State Condition : Type 0} {D : Domain State Condition ℕ} {count : �
 
   pub planned-fresh : Fresh D (listing D (entries planned)) (length (entries planned))
   planned-fresh i k ki il = known-progress planned known (omega arith) .2 .fresh i k ki il
+
+  -- each beginning of the list is the plan for each stop that its last condition meets, and of the earlier ones only parts of it, if only there is room
+  pub replan : (capacity′ : ℕ) (stop′ : Condition → Bool) (n : ℕ) → n < length (entries planned) → n < capacity′
+      → T (stop′ (entryIn D (entries planned) n .condition))
+      → ((i : ℕ) → i < n → T (stop′ (entryIn D (entries planned) i .condition))
+      → T (D .weaker (entryIn D (entries planned) i .condition) (entryIn D (entries planned) n .condition)))
+      → expand D count capacity′ stop′ ≡ covered (prefix (entryIn D (entries planned)) (suc n))
+  replan capacity′ stop′ n inside fits met only =
+      expand-cut D count capacity stop capacity′ stop′ n inside fits met (λ i h t. planned-fresh n i h inside (only i h t))
 
   -- each entry but the goal has an action of the table
   pub planned-action : (i : ℕ) → 0 < i → i < length (entries planned) → entryIn D (entries planned) i .action < count

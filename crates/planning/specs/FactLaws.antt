@@ -8,6 +8,7 @@ use Prim.Native.Nat.{ℕ, suc, _≤_, _<_}
 use lib.Dec.{T, T-not, not-T, ltb, ltb→lt}
 use native.Mathlib.Omega.{arith}
 use lib.ListN.{length}
+use Rattle.base.specs.Lists.{prefix}
 use Rattle.base.specs.Bools.{and-intro, and-left, and-right}
 use Rattle.masks.specs.Sets.{within}
 use Rattle.conditions.specs.declared.Action.{Action}
@@ -18,9 +19,8 @@ use Rattle.conditions.specs.ConditionLaws.{plain-regressed, satisfied-itself, s
 use Rattle.planning.specs.Domain.{Domain, Laws, Plannable}
 use Rattle.planning.specs.Sequence.{Answer, Reaches}
 use Rattle.planning.specs.Expansion.{Entry, exhausted, covered, entries, entryIn, expand}
-use Rattle.planning.specs.ExpansionLaws.{replan}
 use Rattle.planning.specs.Demand.{FirstIn, CoveredBy, tickList, Fewest}
-use Rattle.planning.specs.DemandLaws.{fewest, fewest-transfer, planned-condition, planned-satisfiable, irredundant, unending, start-first, covers-all, no-way, covered-iff, distance}
+use Rattle.planning.specs.DemandLaws.{fewest, fewest-transfer, planned-condition, planned-satisfiable, irredundant, replan, unending, start-first, covers-all, no-way, covered-iff, distance}
 use Rattle.planning.specs.Facts.{Actions, factDomain, unitDomain, startPlan, shiftPlan, Separate, Plain, WithinFacts}
 
 module _ (A : Actions) where
@@ -87,6 +87,15 @@ module _ (A : Actions) (goal : Condition) where
         planned-condition fact-plannable capacity stop (λ c. c .absent ≡ 0) (P .goal-plain)
         (λ a c t. plain-regressed (A .action a) c (P .actions-plain a (fact-plannable .below-count a c t)))
 
+    -- where nothing is to be absent, each beginning of a list, whatever ended it, is the plan for its last condition as the start, if only there is room
+    pub fact-replan : Plain A goal → (capacity′ n : ℕ) → n < length planned → n < capacity′
+        → startPlan A goal capacity′ (entryIn D planned n .condition .present) ≡ covered (prefix (entryIn D planned) (suc n))
+    fact-replan P capacity′ n inside fits =
+        let none = plain-conditions P in
+        let last = entryIn D planned n .condition in
+        replan fact-plannable capacity stop capacity′ (λ c. satisfied c (last .present)) n inside fits (satisfied-itself last (none n inside))
+        (λ i h m. satisfied-weaker (entryIn D planned i .condition) (none i (omega arith)) last m)
+
     -- ---- within the facts of the table: "A state is a held mask without a bit at or above F"
 
     module _ (f : ℕ) (W : WithinFacts f A goal) where
@@ -133,15 +142,3 @@ module _ (A : Actions) (goal : Condition) where
     -- "No way: every entry is expanded and none is part of the start." Then no sequence reaches the goal from it.
     pub fact-no-way : Separate A → (l : List (Entry Condition)) → startPlan A goal capacity start ≡ exhausted l → (w : List ℕ) → Reaches D start w → ⊥
     fact-no-way separate l e = no-way fact-plannable capacity (λ c. satisfied c start) l e (laws separate) start (λ c t. t)
-
-    -- where nothing is to be absent, the plan for a start is the plan for its last condition as the start
-    pub fact-replan : Plain A goal → (l : List (Entry Condition)) (n : ℕ) → length l ≡ suc n → startPlan A goal capacity start ≡ covered l
-        → startPlan A goal capacity (entryIn D l n .condition .present) ≡ covered l
-    fact-replan P l n size e =
-        let last = entryIn D l n .condition in
-        replan D (A .count) capacity (λ c. satisfied c start) (λ a. refl) weaker-refl (fact-plannable .below-count)
-        (λ c. satisfied c (last .present)) l n size e (satisfied-itself last (none n (omega arith)))
-        (λ i h m. satisfied-weaker (entryIn D l i .condition) (none i (omega arith)) last m)
-      where
-        none : (i : ℕ) → i < length l → entryIn D l i .condition .absent ≡ 0
-        none = rw e at (plain-conditions capacity (λ c. satisfied c start) P)

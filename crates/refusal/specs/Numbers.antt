@@ -1,9 +1,9 @@
--- The numbers of document 01, "Stops, in checking order", and of document 02: 19 is W3's, 22 W10's, 24 W12's.
+-- The numbers of document 01, "Stops, in checking order", and of document 02: 19 is W3's, 20 W7's, 22 W10's, 24 W12's.
 -- Assumes nothing.
 use Prim.Native.Nat.{ℕ}
 use Rattle.refusal.specs.declared.Reason.{Reason}
 use Rattle.refusal.specs.declared.Reason.the-variants.{TableCut, CommandNotAllowed, FactCountOutOfRange, TooManyJobs, TableMaskOutOfRange, EffectsOverlap, BytesAfterTable, BadReading, StartUnread, ListFull, NoWay}
-use Rattle.refusal.specs.declared.Reason.the-variants.{TreeTooShort, BadTree, TreeTooDeep, TreeOperandOutOfRange, NoSuchJob, NeedNotHeld, CardExhausted, JobTooLong, NeedsContradict, BadLicences}
+use Rattle.refusal.specs.declared.Reason.the-variants.{TreeTooShort, BadTree, TreeTooDeep, TreeOperandOutOfRange, NoSuchJob, NeedNotHeld, CardExhausted, JobTooLong, OtherOrigin, NeedsContradict, BadLicences}
 
 abbrev pub numberOf : Reason → ℕ
 numberOf TableCut = 1
@@ -25,5 +25,6 @@ numberOf NoSuchJob = 16
 numberOf NeedNotHeld = 17
 numberOf CardExhausted = 18
 numberOf JobTooLong = 19
+numberOf OtherOrigin = 20
 numberOf NeedsContradict = 22
 numberOf BadLicences = 24

@@ -42,6 +42,8 @@ pub enum Reason {
     CardExhausted,
     // A job is listed with more than 5,400 seconds.
     JobTooLong,
+    // A sound tree that no plan of the table writes.
+    OtherOrigin,
     // A job needs a fact that it needs absent.
     NeedsContradict,
     // The licences are not as many as the jobs, or one is none.
@@ -77,6 +79,7 @@ pub fn number(reason: Reason) -> u8
         Reason::NeedNotHeld => 17,
         Reason::CardExhausted => 18,
         Reason::JobTooLong => 19,
+        Reason::OtherOrigin => 20,
         Reason::NeedsContradict => 22,
         Reason::BadLicences => 24,
     }
