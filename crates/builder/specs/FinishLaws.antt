@@ -78,6 +78,18 @@ module _ {Told Trees : Type 0} (F : Finish Told Trees) (paired : Bool) where
         by-end (accepted l) e a = by-room l e (F .fit l) refl a
         by-end (refused m q) e a = let x : m ≡ n = cc in let y : q ≡ p = cc in inl (rw (x, y) at e)
 
+    -- and it has no tree
+    pub refused-tree : (n p : ℕ) → planned F paired until o .answer ≡ refused n p → planned F paired until o .tree ≡ F .none
+    refused-tree n p a = by-end (listedBy until o) a
+      where
+        by-room : (fits : Bool) (l : List (Entry Condition)) → Either fits l .answer ≡ refused n p → Either fits l .tree ≡ F .none
+        by-room true l a = absurd (not-both (sym a))
+        by-room false l a = refl
+
+        by-end : (c : Checked (List (Entry Condition))) → finished F paired (entries o) c .answer ≡ refused n p → finished F paired (entries o) c .tree ≡ F .none
+        by-end (accepted l) a = by-room (F .fit l) l a
+        by-end (refused m q) a = refl
+
   -- ---- what the code leaves
 
   module _ (Wrote : Trees → Type 0) (told : Checked Told) where

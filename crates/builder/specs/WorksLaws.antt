@@ -108,7 +108,10 @@ module _ (table : List ℕ) (b : AreBytes table) (t : Table) (e : readTable tabl
   abbrev paired : Bool
   paired = pairs t
 
-  within-facts : WithinFacts (t .facts) A goal
+  pub facts-few : t .facts ≤ 64
+  facts-few = leb→le (t .facts) 64 (and-right (leb 1 (t .facts)) _ (holds _ (read-sound table b t e .facts-in-range)))
+
+  pub within-facts : WithinFacts (t .facts) A goal
   within-facts =
       let S = read-sound table b t e in
       record {
@@ -120,7 +123,7 @@ module _ (table : List ℕ) (b : AreBytes table) (t : Table) (e : readTable tabl
   pub separate : Separate A
   separate a h = effects-separate (read-sound table b t e .sound-jobs a h)
 
-  nothing-absent : paired ≡ false → Plain A goal
+  pub nothing-absent : paired ≡ false → Plain A goal
   nothing-absent none = record { goal-plain = refl; actions-plain = λ a h. no-absent table b t e none a }
 
   -- each entry is the first one met in the state that holds just its condition
@@ -161,9 +164,6 @@ module _ (table : List ℕ) (b : AreBytes table) (t : Table) (e : readTable tabl
               (plain-conditions A goal capacity (endedBy until) (nothing-absent none)));
           actions-fit = later-by-place _ l _ (λ i h. known (suc i) (omega arith) h);
         }
-      where
-        facts-few : t .facts ≤ 64
-        facts-few = leb→le (t .facts) 64 (and-right (leb 1 (t .facts)) _ (holds _ (read-sound table b t e .facts-in-range)))
 
     -- demand 3, of ticks that answer as the list does
     pub list-fewest : (tick : ℕ → Answer ℕ) → ((s : ℕ) → T (within (t .facts) s) → tick s ≡ tickList D l s)

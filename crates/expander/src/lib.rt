@@ -37,7 +37,7 @@ pub const MAX_PAIRS: usize = 2_978;
 const MAX_ACTIONS: usize = 128;
 
 // How many entries fit the list tables, by their lengths. Where there is no row of absent facts, the second masks take no room.
-fn capacity_of(
+pub fn capacity_of(
     absent: usize,
     conditions: usize,
     absences: usize,

@@ -185,7 +185,7 @@ module _ (l : List ℕ) (at : ℕ) where
 -- ---- the tree of the first entries of the columns, as it grows
 
 module _ (mine : ℕ → Bool) (paired : Bool) where
-  entries-snoc : (l : List (Entry Condition)) (x : Entry Condition)
+  pub entries-snoc : (l : List (Entry Condition)) (x : Entry Condition)
       → laterEntries mine paired (l ++ (x ∷ [])) ≡ laterEntries mine paired l ++ entryBytes paired (x .condition) (mine (x .action)) (x .action)
   unfolding laterEntries
   entries-snoc [] x = append-nil (entryBytes paired (x .condition) (mine (x .action)) (x .action))
