@@ -1,0 +1,4 @@
+-- definitions
+pub mod Parts
+-- laws
+pub mod PartsLaws
