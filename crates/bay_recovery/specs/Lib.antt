@@ -1,0 +1,2 @@
+pub mod RecoveryWords
+pub mod RecoveryWordLaws
