@@ -20,7 +20,7 @@
  * meanwhile. That, and that each pointer is good for its length, is all that is asked of the caller.
  *
  * A refused call writes to nothing that it is lent but `answer`. One exception: after 10, 11 and 12 of a plan the list tables hold the
- * entries stored.
+ * entries stored. bay_recover_list is no plan: its 10 leaves them untouched.
  */
 #ifndef BAY_H
 #define BAY_H
@@ -41,7 +41,7 @@ extern "C" {
 #define BAY_MAX_TABLE_BYTES 4492  /* of a sound table: 128 jobs by BAY_PAIRED_JOB */
 #define BAY_MAX_ENTRIES 4096      /* that a plan lists, and that a list has which is ticked */
 #define BAY_MAX_PAIR_ENTRIES 2978 /* the same of a paired table */
-#define BAY_MAX_TREE_BYTES 65535  /* of a tree that is ticked */
+#define BAY_MAX_TREE_BYTES 65535  /* of a tree that is ticked, or that a list is recovered from */
 #define BAY_NO_JOB 255            /* the job of entry 0 */
 
 /* The commands that a job stands in a table by. A table with a BAY_PAIRED_JOB, even one that needs no fact absent, is called paired: its
@@ -54,13 +54,13 @@ enum bay_job_command {
 
 /* Why a call is refused. F is the table's number of facts. The calls check in the order of the numbers, but for 19, 22 and 24: a job is
  * judged by 4, 5, 6, 19 and 22 in this order, and licences by 24 after the whole table and before 8; of a table and of a tree whatever is
- * wrong earlier in its bytes comes first.
+ * wrong earlier in its bytes comes first. And bay_recover_list checks 10 last: after 13 to 15 comes 20, and then 10.
  *
  * The place of a refusal is
  *   - the offset of the faulty command for 1 to 7, 13 to 15, 19 and 22; but where a command byte is missing (1, 13) the length of the
  *     table or tree; where bytes follow END (7, 13) the first of them; and 0 for a tree of more than BAY_MAX_TREE_BYTES (13);
  *   - of bay_tick_all, which has no tree, the vehicle for 8, 0 for 13, and the entry for 15;
- *   - the number of entries stored for 10 to 12;
+ *   - the number of entries stored for 10 to 12; but of bay_recover_list, which is no plan, 0 for 10;
  *   - the index of the first licence that is none for 24; but where there are not as many as jobs, 0;
  *   - the number of the job for BAY_UNWRITABLE;
  *   - 0 for all others. */
@@ -75,7 +75,8 @@ enum bay_refusal {
     BAY_BYTES_AFTER_TABLE = 7,          /* bytes follow the table's END */
     BAY_BAD_READING = 8,                /* a reading, or the card's masks, share a fact or have a bit at or above F */
     BAY_START_UNREAD = 9,               /* a start for planning has an unread fact */
-    BAY_LIST_FULL = 10,                 /* a condition to be stored would exceed the capacity */
+    BAY_LIST_FULL = 10,                 /* a condition to be stored would exceed the capacity; or a lent list table has no room for the
+                                           list of a tree */
     BAY_NO_WAY = 11,                    /* no sequence of jobs leads from the start to the goal */
     BAY_TREE_TOO_SHORT = 12,            /* a lent tree has no room for the list's tree */
     BAY_BAD_TREE = 13,                  /* a tree is overlong, cut or malformed, or goes on after its END; or a list has no entry, or too
@@ -88,6 +89,7 @@ enum bay_refusal {
     BAY_CARD_EXHAUSTED = 18,            /* the card has 65,535 reports, its taken sum exceeds 65,535 times its count, or its planned
                                            sum 5,400 times its count */
     BAY_JOB_TOO_LONG = 19,              /* a job is listed with more than 5,400 seconds */
+    BAY_OTHER_ORIGIN = 20,              /* a sound tree that bay_plan writes for no start; of a paired table, every sound tree */
     BAY_NEEDS_CONTRADICT = 22,          /* a job needs a fact both held and absent */
     BAY_BAD_LICENCES = 24,              /* the licences are not as many as the jobs, or one is none of 1 to 3 */
 
@@ -428,6 +430,45 @@ static inline struct bay_found bay_list_newest_weaker(struct bay_list list, stru
     found.any = answer[1] == 1;
     found.entry = (size_t)answer[2];
     return found;
+}
+
+/* ---- from the tree back to the list */
+
+/* Recovers the list of a tree that a plan wrote, with its parents and depths, where only the tree was kept. The tree is accepted exactly
+ * where the table is not paired and bay_plan, with room enough, writes the same bytes for some start; the list is the one that it leaves
+ * for that start. So the tree of bay_plan_shift is accepted too, and one of bay_plan_team if nothing waits in it.
+ * Entry i of the list stands at i of conditions, jobs, parents and depths. answer: 0, entries. Nothing is written past the list.
+ * After the table's refusals come 13 to 15 of the tree; 20 with 0 for a sound tree that is not accepted, under a paired table every one;
+ * and then 10 with 0 where one of the four is shorter than the list. In each case the four are untouched. */
+uint64_t bay_recover_list(const uint8_t *table, size_t table_len, const uint8_t *tree, size_t tree_len, uint64_t *conditions,
+                          size_t conditions_len, uint8_t *jobs, size_t jobs_len, uint16_t *parents, size_t parents_len,
+                          uint16_t *depths, size_t depths_len, uint64_t answer[2]);
+
+/* What a recovery is lent: four list tables of the same length. BAY_MAX_ENTRIES are enough for every tree, and (length + 1) / 14 for one
+ * of this length. */
+struct bay_list_room {
+    uint64_t *conditions;
+    uint8_t *jobs;
+    uint16_t *parents;
+    uint16_t *depths;
+    size_t entries;
+};
+
+struct bay_recovered {
+    enum bay_refusal refusal;
+    size_t place;
+    size_t entries;
+};
+
+static inline struct bay_recovered bay_list_recover(struct bay_table table, struct bay_tree tree, struct bay_list_room room) {
+    uint64_t answer[2];
+    struct bay_recovered recovered;
+    bay_recover_list(table.bytes, table.length, tree.bytes, tree.length, room.conditions, room.entries, room.jobs, room.entries,
+                     room.parents, room.entries, room.depths, room.entries, answer);
+    recovered.refusal = bay_answer_refusal(answer);
+    recovered.place = bay_answer_place(answer);
+    recovered.entries = (size_t)bay_answer_value(answer, 1);
+    return recovered;
 }
 
 /* ---- the tick */

@@ -74,6 +74,38 @@ static struct bay_team_room team_room(size_t entries, size_t first_bytes, size_t
     return result;
 }
 
+static uint64_t list_conditions[10];
+static uint8_t list_jobs[10];
+static uint16_t list_parents[10];
+static uint16_t list_depths[10];
+
+/* List tables with room for so many entries, all of them filled with a pattern. */
+static struct bay_list_room list_room(size_t entries) {
+    struct bay_list_room result = {list_conditions, list_jobs, list_parents, list_depths, entries};
+    memset(list_conditions, 0xa5, sizeof list_conditions);
+    memset(list_jobs, 0xa5, sizeof list_jobs);
+    memset(list_parents, 0xa5, sizeof list_parents);
+    memset(list_depths, 0xa5, sizeof list_depths);
+    return result;
+}
+
+/* Entries from this one on are as they were lent. */
+static int unlisted(size_t from) {
+    int same = 1;
+    for (size_t i = from; i < 10; i++) {
+        same = same && list_conditions[i] == UINT64_C(0xa5a5a5a5a5a5a5a5) && list_jobs[i] == 0xa5 && list_parents[i] == 0xa5a5 &&
+               list_depths[i] == 0xa5a5;
+    }
+    return same;
+}
+
+/* So many entries are those that were planned last, and no other is written. */
+static int listed_as_planned(size_t entries) {
+    return memcmp(list_conditions, conditions, entries * sizeof conditions[0]) == 0 && memcmp(list_jobs, jobs, entries) == 0 &&
+           memcmp(list_parents, parents, entries * sizeof parents[0]) == 0 &&
+           memcmp(list_depths, depths, entries * sizeof depths[0]) == 0 && unlisted(entries);
+}
+
 static struct bay_condition condition(uint64_t present, uint64_t absent) {
     struct bay_condition result = {present, absent};
     return result;
@@ -189,8 +221,14 @@ static void pair_plans(void) {
     ticked = bay_tree_tick(table, tree, reading(0x04, 0x01));
     DONE(ticked);
     CHECK(ticked.status == BAY_UNSETTLED && ticked.to_read == 0x01);
+    /* Its own tree gives no list back, with room and without; nor does it under the table that is not paired. */
+    REFUSED(bay_list_recover(table, tree, list_room(10)), BAY_OTHER_ORIGIN, 0);
+    CHECK(unlisted(0));
+    REFUSED(bay_list_recover(table, tree, list_room(0)), BAY_OTHER_ORIGIN, 0);
+    REFUSED(bay_list_recover(first(147), tree, list_room(0)), BAY_OTHER_ORIGIN, 0);
     tree_bytes[3 + 16] = 0x80;
     REFUSED(bay_tree_tick(table, tree, reading(0x04, 0)), BAY_TREE_OPERAND_OUT_OF_RANGE, 3);
+    REFUSED(bay_list_recover(table, tree, list_room(0)), BAY_TREE_OPERAND_OUT_OF_RANGE, 3);
     tree_bytes[3 + 16] = 0;
 
     /* Coupling needs the trailer absent, and read so. */
@@ -234,6 +272,19 @@ static void plans(void) {
     DONE(bay_tree_plan(table, reading(0x02, 0), room(9, 200)));
 }
 
+/* A leaf under 16 nodes. */
+static struct bay_tree too_deep(void) {
+    static uint8_t bytes[16 * 3 + 3];
+    static const uint8_t inner[] = {0x41, 1, 0};
+    static const uint8_t leaf[] = {0x44, 0, 0x4f};
+    for (size_t i = 0; i < 16; i++) {
+        memcpy(bytes + 3 * i, inner, sizeof inner);
+    }
+    memcpy(bytes + 48, leaf, sizeof leaf);
+    struct bay_tree tree = {bytes, sizeof bytes};
+    return tree;
+}
+
 static void ticks(void) {
     struct bay_table table = first(147);
     struct bay_tree tree = {tree_bytes, 111};
@@ -266,15 +317,64 @@ static void ticks(void) {
     static const uint8_t no_job[] = {0x42, 1, 0, 0x44, 5, 0x4f};
     struct bay_tree small = {no_job, sizeof no_job};
     REFUSED(bay_tree_tick(table, small, reading(0x02, 0)), BAY_TREE_OPERAND_OUT_OF_RANGE, 3);
-    uint8_t deep[16 * 3 + 3];
-    for (size_t i = 0; i < 16; i++) {
-        static const uint8_t inner[] = {0x41, 1, 0};
-        memcpy(deep + 3 * i, inner, sizeof inner);
-    }
-    static const uint8_t leaf[] = {0x44, 0, 0x4f};
-    memcpy(deep + 48, leaf, sizeof leaf);
-    struct bay_tree deeper = {deep, sizeof deep};
-    REFUSED(bay_tree_tick(table, deeper, reading(0x02, 0)), BAY_TREE_TOO_DEEP, 48);
+    REFUSED(bay_tree_tick(table, too_deep(), reading(0x02, 0)), BAY_TREE_TOO_DEEP, 48);
+}
+
+static void recoveries(void) {
+    struct bay_table table = first(147);
+    struct bay_tree tree = {tree_bytes, 111};
+    struct bay_recovered recovered = bay_list_recover(table, tree, list_room(8));
+    DONE(recovered);
+    CHECK(recovered.entries == 8 && listed_as_planned(8));
+    CHECK(list_jobs[0] == BAY_NO_JOB && list_conditions[7] == 0x02 && list_jobs[7] == 3 && list_parents[7] == 4 && list_depths[7] == 4);
+    recovered = bay_list_recover(table, tree, list_room(7));
+    REFUSED(recovered, BAY_LIST_FULL, 0);
+    CHECK(recovered.entries == 0 && unlisted(0));
+    /* Each of the four counts. */
+    uint64_t answer[2];
+    list_room(0);
+    CHECK(bay_recover_list(table_bytes, 147, tree_bytes, 111, list_conditions, 7, list_jobs, 8, list_parents, 9, list_depths, 10,
+                           answer) == BAY_LIST_FULL);
+    CHECK(bay_recover_list(table_bytes, 147, tree_bytes, 111, list_conditions, 8, list_jobs, 7, list_parents, 9, list_depths, 10,
+                           answer) == BAY_LIST_FULL);
+    CHECK(bay_recover_list(table_bytes, 147, tree_bytes, 111, list_conditions, 8, list_jobs, 9, list_parents, 7, list_depths, 10,
+                           answer) == BAY_LIST_FULL);
+    CHECK(bay_recover_list(table_bytes, 147, tree_bytes, 111, list_conditions, 8, list_jobs, 9, list_parents, 10, list_depths, 7,
+                           answer) == BAY_LIST_FULL);
+    CHECK(answer[0] == BAY_LIST_FULL && answer[1] == 0 && unlisted(0));
+    CHECK(bay_recover_list(table_bytes, 147, tree_bytes, 111, list_conditions, 10, list_jobs, 9, list_parents, 8, list_depths, 9,
+                           answer) == BAY_OK);
+    CHECK(answer[0] == BAY_OK && answer[1] == 8 && listed_as_planned(8));
+
+    /* The table, then 13 to 15, then 20, and 10 last. */
+    REFUSED(bay_list_recover(first(146), tree, list_room(0)), BAY_TABLE_CUT, 146);
+    tree_bytes[109] = 2;
+    recovered = bay_list_recover(table, tree, list_room(10));
+    REFUSED(recovered, BAY_OTHER_ORIGIN, 0);
+    CHECK(recovered.entries == 0 && unlisted(0));
+    REFUSED(bay_list_recover(table, tree, list_room(0)), BAY_OTHER_ORIGIN, 0);
+    tree_bytes[109] = 5;
+    REFUSED(bay_list_recover(table, tree, list_room(0)), BAY_TREE_OPERAND_OUT_OF_RANGE, 108);
+    tree_bytes[109] = 3;
+    tree.length = 110;
+    REFUSED(bay_list_recover(table, tree, list_room(0)), BAY_BAD_TREE, 110);
+    tree.length = BAY_MAX_TREE_BYTES + 1;
+    REFUSED(bay_list_recover(table, tree, list_room(0)), BAY_BAD_TREE, 0);
+    CHECK(unlisted(0));
+    REFUSED(bay_list_recover(table, too_deep(), list_room(0)), BAY_TREE_TOO_DEEP, 48);
+
+    /* The whole shift's tree; and one entry alone, the goal. */
+    DONE(bay_tree_plan_shift(table, room(9, 200)));
+    tree.length = 125;
+    recovered = bay_list_recover(table, tree, list_room(9));
+    DONE(recovered);
+    CHECK(recovered.entries == 9 && listed_as_planned(9));
+    DONE(bay_tree_plan(table, reading(0x10, 0), room(9, 200)));
+    tree.length = 13;
+    recovered = bay_list_recover(table, tree, list_room(1));
+    DONE(recovered);
+    CHECK(recovered.entries == 1 && listed_as_planned(1));
+    DONE(bay_tree_plan(table, reading(0x02, 0), room(9, 200)));
 }
 
 /* Of the trailer the first fitter measures, the second couples and uncouples, and both may seal. */
@@ -332,6 +432,17 @@ static void teams(void) {
     CHECK(first_tree[108] == 0x4f && first_tree[109] == 0 && second_tree[105] == 0x4f && second_tree[106] == 0);
     CHECK(team_told(0x02, 3, BAY_NO_JOB) && team_told(0x0a, BAY_NO_JOB, 1) && team_told(0x0c, 4, BAY_NO_JOB));
     CHECK(alike(0x10, BAY_SUCCESS) && alike(0x08, BAY_FAILURE));
+
+    /* Neither tree gives the list back, since something waits in both; where one fitter has every job, his does. */
+    struct bay_tree of_first = {first_tree, 109}, of_second = {second_tree, 106};
+    REFUSED(bay_list_recover(table, of_first, list_room(8)), BAY_OTHER_ORIGIN, 0);
+    REFUSED(bay_list_recover(table, of_second, list_room(8)), BAY_OTHER_ORIGIN, 0);
+    static const uint8_t all_second[5] = {2, 2, 2, 2, 2};
+    struct bay_licences of_one = {all_second, 5};
+    DONE(bay_tree_plan_team(table, of_one, reading(0x02, 0), team_room(8, 104, 111)));
+    of_second.length = 111;
+    DONE(bay_list_recover(table, of_second, list_room(8)));
+    CHECK(listed_as_planned(8));
 
     /* The words of a waiting leaf: a status of its own, and no value. */
     static const uint8_t waiting[] = {0x46, 0x4f, 0x4f};
@@ -541,6 +652,7 @@ int main(void) {
     plans();
     searches();
     ticks();
+    recoveries();
     batches();
     cards();
     teams();

@@ -120,6 +120,9 @@ for folder in trailer trailer_one_fact_less truck_two_axles no_way damaged_table
         same "bayplan in examples/$folder" "examples/$folder/expected.txt" "$work/printed"
     fi
 done
+for folder in trailer trailer_one_fact_less truck_two_axles; do
+    same "examples/$folder/plan.tree as made" "examples/$folder/plan.tree" "$work/examples/$folder/plan.tree"
+done
 
 compiler=
 for each in gcc cc; do
@@ -164,7 +167,7 @@ fi
 
 # ---- the examples in C and Python
 
-for program in plan shift team stack; do
+for program in plan shift team recover stack; do
     if $compiler -std=c99 -Wall -Wextra -Werror -O1 -Iinclude examples/c/$program.c "$archive" -o "$work/$program"; then
         ok "examples/c/$program.c is compiled"
     else
@@ -187,6 +190,16 @@ same "examples/c/team on trailer" examples/c/expected_team.txt "$work/printed"
 same "examples/c/team on trailer_one_fact_less" examples/c/expected_team_trailer_one_fact_less.txt "$work/printed"
 "$work/team" examples/trailer/bay.tab 02 22143 >"$work/printed" 2>&1
 same "examples/c/team with a bad licence" examples/c/expected_team_bad_licence.txt "$work/printed"
+for folder in trailer truck_two_axles; do
+    # The entries that bayplan prints, without its first line and its last.
+    sed '1d;$d' examples/$folder/expected.txt >"$work/entries"
+    "$work/recover" examples/$folder/bay.tab examples/$folder/plan.tree >"$work/printed" 2>&1
+    same "examples/c/recover on $folder" "$work/entries" "$work/printed"
+done
+"$work/recover" examples/trailer_one_fact_less/bay.tab examples/trailer_one_fact_less/plan.tree >"$work/printed" 2>&1
+same "examples/c/recover on trailer_one_fact_less" examples/c/expected_recover_trailer_one_fact_less.txt "$work/printed"
+"$work/recover" examples/trailer/bay.tab examples/truck_two_axles/plan.tree >"$work/printed" 2>&1
+same "examples/c/recover with another table" examples/c/expected_recover_another_table.txt "$work/printed"
 (ulimit -s 256 && "$work/stack") >"$work/printed" 2>&1
 same "examples/c/stack on a stack of 256 KiB" examples/c/expected_stack.txt "$work/printed"
 

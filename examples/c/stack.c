@@ -1,5 +1,5 @@
 /* Ticks the widest and the deepest trees that are legal and the one with the most leaves, plans the longest list, ticks it for a yard of
- * vehicles, and plans it for two fitters. To be run with a stack of BAY_STACK_BYTES:
+ * vehicles, and plans it for two fitters; and of each tree, recovers its list if there is one. To be run with a stack of BAY_STACK_BYTES:
  *
  *     cc -std=c99 -Iinclude examples/c/stack.c target/staticlib/libbay.a -o target/stack && (ulimit -s 256; target/stack)
  */
@@ -58,12 +58,20 @@ static void put_pair(uint64_t present, uint64_t absent) {
     put_mask(absent);
 }
 
+/* Recovers the list of a tree. Most trees here are no plan's, and that is no fault. */
+static int recover(struct bay_table table, struct bay_tree tree) {
+    struct bay_list_room room = {conditions, jobs, parents, depths, BAY_MAX_ENTRIES};
+    struct bay_recovered list = bay_list_recover(table, tree, room);
+    printf("  its list: refusal %d, %zu entries\n", (int)list.refusal, list.entries);
+    return list.refusal == BAY_OK || list.refusal == BAY_OTHER_ORIGIN;
+}
+
 static int tick_tree(const char *name, struct bay_table table, struct bay_tree tree, uint64_t held) {
     struct bay_reading reading = {held, 0};
     struct bay_ticked ticked = bay_tree_tick(table, tree, reading);
     printf("%s: %zu bytes, refusal %d, status %d, job %zu\n", name, tree.length, (int)ticked.refusal, (int)ticked.status,
            ticked.job);
-    return ticked.refusal == BAY_OK;
+    return ticked.refusal == BAY_OK && recover(table, tree);
 }
 
 static int tick(const char *name, struct bay_table table, uint64_t held) {
@@ -107,7 +115,7 @@ static int plan_team(const char *name, struct bay_table table, struct bay_readin
 }
 
 /* Plans for the whole shift, which lists all that there is room for, then for a start that meets the last entry listed and no earlier one, and
- * ticks the tree of that plan and its list; then the same for two fitters. */
+ * ticks the tree of that plan and its list, and the tree with a change; then the same for two fitters. */
 static int plan(const char *name, struct bay_table table, uint64_t needed_absent) {
     struct bay_plan_room room = {conditions, jobs, parents, depths, BAY_MAX_ENTRIES, absences, BAY_MAX_PAIR_ENTRIES, tree_bytes,
                                  sizeof tree_bytes};
@@ -123,8 +131,12 @@ static int plan(const char *name, struct bay_table table, uint64_t needed_absent
     printf("%s: refusal %d, %zu entries, %zu bytes, %zu jobs, %" PRIu32 " minutes\n", name, (int)plan.refusal, plan.entries,
            plan.tree_bytes, plan.way_jobs, plan.way_minutes);
     tree_length = plan.tree_bytes;
-    return plan.refusal == BAY_OK && tick("built", table, start.held) && tick_all("yard", table, plan.entries, start.held) &&
-           plan_team("team", table, start);
+    if (plan.refusal != BAY_OK || !tick("built", table, start.held) || !tick_all("yard", table, plan.entries, start.held)) {
+        return 0;
+    }
+    /* Another job in the last entry: all of the tree but this is a plan's. */
+    tree_bytes[tree_length - 2] ^= 1;
+    return tick("changed", table, start.held) && plan_team("team", table, start);
 }
 
 /* Twelve facts to reach, each from a fact of its own, so that the list would have 4,096 entries; the jobs after the first twelve do the same

@@ -52,6 +52,7 @@ class Refusal(enum.IntEnum):
     NEED_NOT_HELD = 17
     CARD_EXHAUSTED = 18
     JOB_TOO_LONG = 19
+    OTHER_ORIGIN = 20
     NEEDS_CONTRADICT = 22
     BAD_LICENCES = 24
     TOO_SHORT = 100
@@ -206,6 +207,7 @@ _PARAMETERS = {
     "bay_plan_shift": _SLICE + _SLICE * 6 + _ANSWER,
     "bay_plan_team": _SLICE * 2 + _MASKS + _SLICE * 7 + _ANSWER,
     "bay_newest_weaker": _SLICE * 2 + _MASKS + _ANSWER,
+    "bay_recover_list": _SLICE * 6 + _ANSWER,
     "bay_tick": _SLICE * 2 + _MASKS + _ANSWER,
     "bay_tick_all": _SLICE * 8 + _ANSWER,
     "bay_open": _SLICE + _MASKS + _CARD + _ANSWER,
@@ -284,17 +286,28 @@ class Bay:
 
     # ---- the plan
 
+    # The list tables in the order in which they are lent, each with the member of an entry that it holds.
+    LISTS = [("condition", c_uint64), ("absent", c_uint64), ("job", c_uint8), ("parent", c_uint16), ("depth", c_uint16)]
+
+    def _lists(self, most_entries, second_masks):
+        """List tables with room for so many entries, with second masks or without, by the member of an entry that each holds."""
+        most_entries = _number("most_entries", most_entries, 32)
+        return {name: _row(kind, [0] * most_entries) for name, kind in self.LISTS if second_masks or name != "absent"}
+
+    @staticmethod
+    def _entries(lists, count):
+        """So many entries of lent list tables."""
+        rows = zip(*(row[:count] for row, _ in lists.values()))
+        entries = [Entry(**dict(zip(lists, members))) for members in rows]
+        return tuple(entry if i else entry._replace(job=None) for i, entry in enumerate(entries))
+
     def _planned(self, name, words, arguments, most_entries, trees):
         """The entries, what the library answers between their number and the last word, and whether the table is paired."""
-        most_entries = _number("most_entries", most_entries, 32)
-        # Conditions, second masks, jobs, parents, depths.
-        rows = [_row(kind, [0] * most_entries) for kind in (c_uint64, c_uint64, c_uint8, c_uint16, c_uint16)]
-        lent = [part for row in rows + trees for part in row]
+        lists = self._lists(most_entries, second_masks=True)
+        lent = [part for row in [*lists.values(), *trees] for part in row]
         entries, *more, paired = self._call(name, words, *arguments, *lent)
-        listed = enumerate(zip(*(row[:entries] for row, _ in rows)))
         # A table that is not paired leaves the second masks as they are lent: 0.
-        listed = tuple(Entry(condition, job if i else None, parent, depth, absent) for i, (condition, absent, job, parent, depth) in listed)
-        return listed, more, bool(paired)
+        return self._entries(lists, entries), more, bool(paired)
 
     @staticmethod
     def _room(name, most_bytes):
@@ -322,6 +335,14 @@ class Bay:
         trees = [self._room("most_first_bytes", most_first_bytes), self._room("most_second_bytes", most_second_bytes)]
         entries, lengths, paired = self._planned("bay_plan_team", 5, arguments, most_entries, trees)
         return TeamPlan(entries, *(bytes(tree[:length]) for (tree, _), length in zip(trees, lengths)), paired)
+
+    def recover_list(self, table, tree, most_entries=MAX_ENTRIES) -> Tuple[Entry, ...]:
+        """The entries of a plan, from its tree alone. OTHER_ORIGIN where the plan for no start writes a sound tree, or the table is paired;
+        LIST_FULL where there are more than most_entries."""
+        lists = self._lists(most_entries, second_masks=False)
+        lent = [part for row in lists.values() for part in row]
+        (entries,) = self._call("bay_recover_list", 2, *_bytes("table", table), *_bytes("tree", tree), *lent)
+        return self._entries(lists, entries)
 
     def newest_weaker(self, listed, condition, absences=(), absent=0):
         """The newest entry of listed conditions that is a part of a condition, or None. Entry i wants the facts of listed[i] held and those of

@@ -1,5 +1,5 @@
-"""Plans the work on a trailer, follows vehicles with the one tree, looks over a yard of them in one call, and has two fitters work on one of them;
-then the same with one fact less, "trailer off" as the absence of "trailer on".
+"""Plans the work on a trailer, follows vehicles with the one tree, looks over a yard of them in one call, recovers the list from the tree alone, and
+has two fitters work on one of them; then all but the recovery with one fact less, "trailer off" as the absence of "trailer on".
 
     python3 examples/python/plan.py target/libbay.so
 
@@ -100,6 +100,12 @@ def look_over(bay, workshop, table, plan, yard):
         print(f"  held {workshop.named(reading.held)}; unread {workshop.named(reading.unread)}: {told}")
 
 
+def recover(bay, table, plan):
+    """The list again, where only the tree of a plan was kept."""
+    entries = bay.recover_list(table, plan.tree)
+    print(f"recovered: {len(entries)} entries, {'as planned' if entries == plan.entries else 'others than planned'}")
+
+
 def told(tick):
     """What a fitter is told in a state that his team's list covers."""
     if tick.status == Status.RUNNING:
@@ -129,6 +135,7 @@ def main():
     follow(bay, TRAILER, table, plan.tree, Reading(0x02, 0x08), 0x0A)
     follow(bay, TRAILER, table, plan.tree, Reading(0x08, 0x00), 0x08)
     look_over(bay, TRAILER, table, plan, [Reading(0x10), Reading(0x0C), Reading(0x02, 0x08), Reading(0x0A)])
+    recover(bay, table, plan)
     work_as_team(bay, TRAILER, table, 0x02)
 
     for name, call in [
@@ -138,6 +145,7 @@ def main():
         ("a tree that is cut", lambda: bay.tick(table, plan.tree[:50], Reading(0x02))),
         ("a yard whose second reading is bad", lambda: bay.tick_all(table, plan.entries, [Reading(0x02), Reading(0x20)])),
         ("a team whose fourth licence is none", lambda: bay.plan_team(table, [2, 2, 1, 4, 3], Reading(0x02))),
+        ("the list of a fitter's tree", lambda: bay.recover_list(table, bay.plan_team(table, LICENCES, Reading(0x02)).first)),
     ]:
         try:
             call()

@@ -102,6 +102,7 @@ class Ranges(unittest.TestCase):
         if bits == 32:
             yield lambda x: bay.plan(table, Reading(), most_entries=x)
             yield lambda x: bay.plan_shift(table, most_tree_bytes=x)
+            yield lambda x: bay.recover_list(table, b"", most_entries=x)
             for name in ("most_entries", "most_first_bytes", "most_second_bytes"):
                 yield lambda x, name=name: bay.plan_team(table, [], Reading(), **{name: x})
             for name in ("taken", "planned"):
@@ -138,6 +139,8 @@ class Ranges(unittest.TestCase):
                 lambda x: bay.plan(x, Reading()),
                 lambda x: bay.plan_shift(x),
                 lambda x: bay.plan_team(x, [], Reading()),
+                lambda x: bay.recover_list(x, b""),
+                lambda x: bay.recover_list(b"", x),
                 lambda x: bay.tick(x, b"", Reading()),
                 lambda x: bay.tick(b"", x, Reading()),
                 lambda x: bay.tick_all(x, [], []),
@@ -297,6 +300,40 @@ class Calls(Library):
         self.refused(Refusal.TREE_TOO_SHORT, 8, plan, self.table, LICENCES, start, most_second_bytes=105)
         self.assertEqual(len(plan(self.table, LICENCES, start, 8, 109, 106).first), 109)
 
+    def test_recoveries(self):
+        recover = self.bay.recover_list
+        plan = self.bay.plan(self.table, Reading(0x02))
+        self.assertEqual(recover(self.table, plan.tree), plan.entries)
+        self.assertEqual(recover(self.table, plan.tree, most_entries=8), plan.entries)
+        self.assertEqual(recover(self.table, plan.tree)[7], Entry(condition=0x02, job=3, parent=4, depth=4))
+        # Every start's tree, and the whole shift's.
+        for held in range(1 << 5):
+            try:
+                plan = self.bay.plan(self.table, Reading(held))
+            except Refused:
+                continue
+            self.assertEqual(recover(self.table, bytearray(plan.tree)), plan.entries)
+        shift = self.bay.plan_shift(self.table)
+        self.assertEqual(recover(self.table, shift.tree), shift.entries)
+        team = self.bay.plan_team(self.table, [2] * 5, Reading(0x02))
+        self.assertEqual(recover(self.table, team.second), team.entries)
+
+    def test_refused_recoveries(self):
+        recover = self.bay.recover_list
+        tree = self.bay.plan(self.table, Reading(0x02)).tree
+        for most in (0, 7):
+            self.refused(Refusal.LIST_FULL, 0, recover, self.table, tree, most_entries=most)
+        # 20 comes before that, 13 to 15 before 20, and the table before all.
+        team = self.bay.plan_team(self.table, LICENCES, Reading(0x02))
+        for other in (tree[:109] + b"\x02\x4f", b"\x42" + tree[1:], b"\x46\x4f", team.first, team.second):
+            self.refused(Refusal.OTHER_ORIGIN, 0, recover, self.table, other, most_entries=0)
+            self.refused(Refusal.OTHER_ORIGIN, 0, recover, self.table, other)
+        self.refused(Refusal.TREE_OPERAND_OUT_OF_RANGE, 108, recover, self.table, tree[:109] + b"\x05\x4f", most_entries=0)
+        self.refused(Refusal.TREE_TOO_DEEP, 48, recover, self.table, b"\x41\x01\x00" * 16 + b"\x46\x4f", most_entries=0)
+        self.refused(Refusal.BAD_TREE, 110, recover, self.table, tree[:110], most_entries=0)
+        self.refused(Refusal.BAD_TREE, 0, recover, self.table, bytes(65536))
+        self.refused(Refusal.TABLE_CUT, 146, recover, self.table[:146], tree[:110])
+
     def test_searches(self):
         listed = [0x03, 0x01, 0x04, 0x01, 0x0C]
         self.assertEqual([self.bay.newest_weaker(listed[:n], 0x03) for n in range(6)], [None, 0, 1, 1, 3, 3])
@@ -414,6 +451,13 @@ class Pairs(Library):
         self.assertEqual(self.bay.tick(self.pairs, plan.second, Reading(0x05)), Tick(Status.RUNNING, job=1))
         self.assertEqual(self.bay.tick(self.pairs, plan.first, Reading(0x05)), Tick(Status.WAITING))
         self.refused(Refusal.TREE_TOO_SHORT, 7, self.bay.plan_team, self.pairs, LICENCES, Reading(0x01), most_second_bytes=148)
+
+    def test_pair_recoveries(self):
+        trees = self.bay.plan(self.pairs, Reading(0x01)).tree, self.bay.plan_shift(self.pairs).tree
+        for tree in trees:
+            for most in (0, 8, 4096):
+                self.refused(Refusal.OTHER_ORIGIN, 0, self.bay.recover_list, self.pairs, tree, most_entries=most)
+            self.refused(Refusal.BAD_TREE, len(tree) - 1, self.bay.recover_list, self.pairs, tree[:-1])
 
     def test_pair_batches(self):
         entries = self.bay.plan(self.pairs, Reading(0x01)).entries

@@ -553,6 +553,43 @@ pub struct Lent {
 /// How many elements of each slice are lent, in the order of `Lent`.
 pub type Lengths = [usize; 6];
 
+/// "the four list tables", as a call is lent them.
+#[derive(Debug)]
+pub struct Lists<'a> {
+    pub conditions: &'a mut [u64],
+    pub jobs: &'a mut [u8],
+    pub parents: &'a mut [u16],
+    pub depths: &'a mut [u16],
+}
+
+/// How many elements of each list table are lent, in the order of `Lists`.
+pub type ListLengths = [usize; 4];
+
+impl<'a> Lists<'a> {
+    /// The first so many elements of each.
+    pub fn first(self, [conditions, jobs, parents, depths]: ListLengths) -> Lists<'a> {
+        Lists {
+            conditions: &mut self.conditions[..conditions],
+            jobs: &mut self.jobs[..jobs],
+            parents: &mut self.parents[..parents],
+            depths: &mut self.depths[..depths],
+        }
+    }
+
+    fn shortest(&self) -> usize {
+        self.conditions.len().min(self.jobs.len()).min(self.parents.len()).min(self.depths.len())
+    }
+
+    fn store(&mut self, list: &[Entry]) {
+        for (i, entry) in list.iter().enumerate() {
+            self.conditions[i] = entry.condition.present;
+            self.jobs[i] = entry.job;
+            self.parents[i] = entry.parent;
+            self.depths[i] = entry.depth;
+        }
+    }
+}
+
 impl Lent {
     /// Slices of these lengths, each filled with a pattern.
     pub fn filled(lengths: Lengths, pattern: u64) -> Lent {
@@ -572,16 +609,21 @@ impl Lent {
         Lent::filled([MOST_ENTRIES, MOST_ENTRIES, MOST_ENTRIES, MOST_ENTRIES, MOST_ENTRIES, MOST_TREE_BYTES], 0)
     }
 
+    pub fn lists(&mut self) -> Lists<'_> {
+        Lists {
+            conditions: &mut self.conditions,
+            jobs: &mut self.jobs,
+            parents: &mut self.parents,
+            depths: &mut self.depths,
+        }
+    }
+
     fn store(&mut self, table: &Table, list: &[Entry]) {
-        let paired = table.is_paired();
-        for (i, entry) in list.iter().enumerate() {
-            self.conditions[i] = entry.condition.present;
-            if paired {
+        self.lists().store(list);
+        if table.is_paired() {
+            for (i, entry) in list.iter().enumerate() {
                 self.absences[i] = entry.condition.absent;
             }
-            self.jobs[i] = entry.job;
-            self.parents[i] = entry.parent;
-            self.depths[i] = entry.depth;
         }
     }
 
@@ -607,9 +649,8 @@ impl Lent {
     }
 
     /// "the shortest of the four lent list tables", and with a 0x21 of the fifth, "which the capacity covers".
-    fn capacity(&self, table: &Table) -> usize {
-        let lengths = [self.conditions.len(), self.jobs.len(), self.parents.len(), self.depths.len()];
-        let four = lengths.into_iter().fold(table.most_entries(), usize::min);
+    fn capacity(&mut self, table: &Table) -> usize {
+        let four = self.lists().shortest().min(table.most_entries());
         if table.is_paired() {
             four.min(self.absences.len())
         } else {
@@ -917,6 +958,36 @@ pub fn named(table: &Table, root: &Node, start: u64) -> Vec<u8> {
         state = table.jobs[usize::from(number)].finish(state);
     }
     jobs
+}
+
+// ---- from the tree back to the list (document 02, W7)
+
+/// The list of a sound tree, if there is one: "accepted exactly when document 01's plan would write those bytes for some start". Every start's list is a
+/// beginning of the whole list. Every beginning is some start's, since its last condition is a state that meets no condition before it. Of a table with a
+/// 0x21 there is none: "under others W7 gives 20 for every sound tree" (W10).
+fn list_of_tree(table: &Table, tree: &[u8], root: &Node) -> Option<Vec<Entry>> {
+    match root {
+        Node::Inner { children, .. } if !table.is_paired() => {
+            let (beginning, _) = expand(table, None, children.len());
+            (tree_bytes(table, &beginning) == tree).then_some(beginning)
+        }
+        _ => None,
+    }
+}
+
+/// "Given a table and a tree, rebuild the four list tables": the table's stops, then 13 to 15, then 20, then 10, and "list tables are untouched in each
+/// case". Gives the number of entries.
+pub fn recover(table: &[u8], tree: &[u8], mut lists: Lists) -> Result<usize, Refusal> {
+    let table = read_table(table)?;
+    let root = read_tree(tree, &table)?;
+    let Some(list) = list_of_tree(&table, tree, &root) else {
+        return refuse(20, 0);
+    };
+    if lists.shortest() < list.len() {
+        return refuse(10, 0);
+    }
+    lists.store(&list);
+    Ok(list.len())
 }
 
 // ---- the tick of a whole yard (document 02, W4)

@@ -588,6 +588,196 @@ fn ticks_of_a_waiting_leaf() {
     );
 }
 
+/// The list of a tree, recovered into list tables of these lengths, or number and place. Nothing past the list is written, and where the call is refused
+/// nothing at all.
+fn recovered(table: &[u8], tree: &[u8], lengths: ListLengths) -> Result<Vec<Entry>, (u64, usize)> {
+    let [conditions, jobs, parents, depths] = lengths;
+    let unwritten = Lent::filled([conditions, 0, jobs, parents, depths, 0], 7);
+    let mut lent = unwritten.clone();
+    let result = recover(table, tree, lent.lists());
+    let entries = *result.as_ref().unwrap_or(&0);
+    assert_eq!(lent.conditions[entries..], unwritten.conditions[entries..]);
+    assert_eq!(lent.jobs[entries..], unwritten.jobs[entries..]);
+    assert_eq!(lent.parents[entries..], unwritten.parents[entries..]);
+    assert_eq!(lent.depths[entries..], unwritten.depths[entries..]);
+    result.map(|entries| lent.list(false, entries)).map_err(|refusal| (refusal.number, refusal.place))
+}
+
+/// The tree that the trailer's plan for a start writes.
+fn trailer_tree(held: u64) -> Vec<u8> {
+    let mut lists = lent(MOST_ENTRIES);
+    let planned = plan(&trailer::table(), held, 0, &mut lists).unwrap();
+    lists.tree[..planned.tree_bytes].to_vec()
+}
+
+/// Document 02, W7, on P1, P2 and P5 and on the whole shift.
+#[test]
+fn lists_of_the_trailers_trees() {
+    let bytes = trailer::table();
+    let whole = trailer::whole_list();
+    for (start, entries, tree_bytes) in [(0x02, 8, 111), (0x01, 9, 125), (0x10, 1, 13)] {
+        let tree = trailer_tree(start);
+        assert_eq!(tree.len(), tree_bytes);
+        assert_eq!(recovered(&bytes, &tree, [entries; 4]), Ok(whole[..entries].to_vec()));
+        assert_eq!(recovered(&bytes, &tree, [12; 4]), Ok(whole[..entries].to_vec()));
+    }
+    assert_eq!(whole[..8], trailer_list());
+    // The whole shift's tree is P2's.
+    let mut lists = lent(9);
+    let shift = plan_shift(&bytes, &mut lists).unwrap();
+    assert_eq!(lists.tree[..shift.tree_bytes], trailer_tree(0x01));
+    // So is every start's whose list ends with the same entry: 13 holds the goal as 10 does.
+    assert_eq!(trailer_tree(0x13), trailer_tree(0x10));
+    assert_eq!(recovered(&bytes, &trailer_tree(0x03), [6; 4]), Ok(whole[..6].to_vec()));
+}
+
+/// The table's stops, then 13 to 15, then 20, then 10, with place 0.
+#[test]
+fn stops_of_a_recovery_come_in_order() {
+    let table = trailer::table();
+    let tree = trailer_tree(0x02);
+    let changed = |at: usize, byte: u8| [&tree[..at], &[byte], &tree[at + 1..]].concat();
+    let stop = |tree: &[u8], lengths| recovered(&table, tree, lengths).err();
+    assert_eq!(stop(&tree, [8; 4]), None);
+    // 10 where one of the four is too short.
+    for lengths in [[7, 8, 8, 8], [8, 7, 8, 8], [8, 8, 7, 8], [8, 8, 8, 7], [0; 4], [9, 9, 9, 0]] {
+        assert_eq!(stop(&tree, lengths), Some((10, 0)));
+    }
+    for lengths in [[8; 4], [0; 4]] {
+        // 20: another goal, mask, job, or root; two entries the other way round; a waiting leaf; a leaf as root.
+        for other in [changed(4, 0x08), changed(99 + 1, 0x01), changed(109, 2), changed(0, SEQUENCE)] {
+            assert_eq!(stop(&other, lengths), Some((20, 0)));
+        }
+        let swapped = [&tree[..26], &tree[40..54], &tree[26..40], &tree[54..]].concat();
+        assert_eq!(stop(&swapped, lengths), Some((20, 0)));
+        let waiting = [&tree[..108], &[WAITING_LEAF, END_OF_TREE]].concat();
+        assert_eq!(stop(&waiting, lengths), Some((20, 0)));
+        assert_eq!(stop(&[make::condition(0x10), vec![END_OF_TREE]].concat(), lengths), Some((20, 0)));
+        // 13, 14 and 15 before it, in trees that no plan writes.
+        assert_eq!(stop(&tree[..110], lengths), Some((13, 110)));
+        assert_eq!(stop(&[&tree[..], &tree].concat(), lengths), Some((13, 111)));
+        assert_eq!(stop(&changed(1, 9), lengths), Some((13, 110)));
+        assert_eq!(stop(&changed(109, 5), lengths), Some((15, 108)));
+        assert_eq!(stop(&changed(99 + 8, 0x80), lengths), Some((15, 99)));
+        let deep = [[FALLBACK, 1, 0].repeat(16), vec![WAITING_LEAF, END_OF_TREE]].concat();
+        assert_eq!(stop(&deep, lengths), Some((14, 48)));
+        assert_eq!(stop(&vec![WAITING_LEAF; MOST_TREE_BYTES + 1], lengths), Some((13, 0)));
+        // The table before all.
+        assert_eq!(recovered(&table[..146], &tree[..110], lengths), Err((1, 146)));
+        let long = Job { seconds: 5_401, ..trailer::jobs()[2] };
+        assert_eq!(recovered(&table_bytes(5, &[long], 0x10), &[], lengths), Err((19, 2)));
+        let both_ways = Job::paired(0x01, 0x01, 0x02, 0x00, 60);
+        assert_eq!(recovered(&table_bytes(5, &[both_ways], 0x10), &[], lengths), Err((22, 2)));
+    }
+    // Seconds are no part of a tree. One job more changes the list.
+    let mut jobs = trailer::jobs();
+    jobs[3].seconds = 1;
+    assert_eq!(recovered(&table_bytes(5, &jobs, 0x10), &tree, [8; 4]), Ok(trailer_list()));
+    jobs.push(Job::plain(0x01, 0x10, 0x00, 60));
+    assert_eq!(recovered(&table_bytes(5, &jobs, 0x10), &tree, [8; 4]), Err((20, 0)));
+}
+
+/// "under others W7 gives 20 for every sound tree", that of the table's own plan too; and pairs and waiting leaves are sound under any table.
+#[test]
+fn no_list_under_a_table_with_a_0x21() {
+    let table = one_fact_less::table();
+    let own = tree_bytes(&read_table(&table).unwrap(), &one_fact_less_list());
+    assert_eq!(own.len(), 153);
+    let goal = [make::inner(FALLBACK, 1), make::condition(0x08), vec![END_OF_TREE]].concat();
+    for lengths in [[0; 4], [7; 4], [4_096; 4]] {
+        for tree in [&own, &goal, &vec![WAITING_LEAF, END_OF_TREE]] {
+            assert_eq!(recovered(&table, tree, lengths), Err((20, 0)));
+        }
+        assert_eq!(recovered(&table, &own[..152], lengths), Err((13, 152)));
+        assert_eq!(recovered(&trailer::table(), &own, lengths), Err((20, 0)));
+    }
+    // A 0x21 that needs nothing absent is enough.
+    let mut jobs = trailer::jobs();
+    jobs[0].command = PAIRED_JOB;
+    assert_eq!(recovered(&table_bytes(5, &jobs, 0x10), &trailer_tree(0x02), [8; 4]), Err((20, 0)));
+}
+
+/// A fitter's tree is the plan's only where nothing waits in it.
+#[test]
+fn lists_of_two_fitters_trees() {
+    let table = read_table(&trailer::table()).unwrap();
+    for licences in make::every_row_of_licences(5) {
+        for fitter in FITTERS {
+            let tree = fitter_tree_bytes(&table, &trailer_list(), &licences, fitter);
+            let waits = trailer_list()[1..].iter().any(|entry| owner(licences[usize::from(entry.job)]) != fitter);
+            let expected = if waits { Err((20, 0)) } else { Ok(trailer_list()) };
+            assert_eq!(recovered(&trailer::table(), &tree, [8; 4]), expected);
+        }
+    }
+}
+
+/// The parent is the entry that was expanded, and not the newest that fits: fact 3 leads to the facts 1 and 2, and each of them to the goal.
+#[test]
+fn parents_of_a_recovered_list() {
+    let jobs = vec![Job::plain(0x02, 0x01, 0, 1), Job::plain(0x04, 0x01, 0, 1), Job::plain(0x08, 0x06, 0, 1)];
+    let table = Table { facts: 4, jobs, goal: 0x01 };
+    let list = expand(&table, None, MOST_ENTRIES).0;
+    assert_eq!([1, 2].map(|i: usize| condition_before(&table.jobs[2], list[i].condition)), [list[3].condition; 2]);
+    let recovered = recovered(&table.bytes(), &tree_bytes(&table, &list), [4; 4]).unwrap();
+    assert_eq!((recovered[3].parent, recovered[3].depth), (1, 2));
+}
+
+/// "accepted exactly when document 01's plan would write those bytes for some start, and planning for that start gives that list": all starts of small
+/// tables, their trees, every byte of them changed, and trees of the same entries in another order.
+#[test]
+fn lists_of_trees_by_brute_force() {
+    for index in 0..60 {
+        let random = &mut Random::for_case(1, "recovery", index);
+        let table = make::small_table(random, index, Jobs::Plain);
+        let bytes = table.bytes();
+        let mut plans = Vec::new();
+        for start in 0..1 << table.facts {
+            let (list, ending) = expand(&table, Some(start), MOST_ENTRIES);
+            if ending == Ending::Covered {
+                plans.push((tree_bytes(&table, &list), list));
+            }
+        }
+        plans.sort_by_key(|(tree, _)| tree.len());
+        plans.dedup();
+        let check = |tree: &[u8]| {
+            let of_a_plan = plans.iter().find(|plan| plan.0 == tree).map(|plan| plan.1.clone());
+            match recovered(&bytes, tree, [40; 4]) {
+                Ok(list) => assert_eq!(Some(list), of_a_plan),
+                Err(refusal) => {
+                    let of_the_tree = read_tree(tree, &table).map_err(|refusal| (refusal.number, refusal.place));
+                    assert_eq!((of_a_plan, refusal), (None, of_the_tree.err().unwrap_or((20, 0))));
+                }
+            }
+        };
+        for (tree, list) in &plans {
+            check(tree);
+            for at in 0..tree.len() {
+                let mut changed = tree.clone();
+                changed[at] ^= 1 << random.below(8);
+                check(&changed);
+            }
+            for first in 0..list.len() {
+                let mut other = list.clone();
+                other.swap(first, list.len() - 1);
+                check(&tree_bytes(&table, &other));
+                check(&tree_bytes(&table, &list[..=first]));
+            }
+        }
+    }
+}
+
+/// The first 4,096 entries of a whole list that is longer are some start's list.
+#[test]
+fn longest_list_of_a_tree() {
+    let table = make::long_table(13, 0, Jobs::Plain);
+    let (list, ending) = expand(&table, None, MOST_ENTRIES);
+    assert_eq!(ending, Ending::Full);
+    assert_eq!(expand(&table, Some(list[4_095].condition.present), MOST_ENTRIES), (list.clone(), Ending::Covered));
+    let tree = tree_bytes(&table, &list);
+    assert_eq!((tree.len(), recovered(&table.bytes(), &tree, [4_096; 4])), (57_343, Ok(list)));
+    assert_eq!(recovered(&table.bytes(), &tree, [4_096, 4_096, 4_095, 4_096]), Err((10, 0)));
+}
+
 /// The answers and the count of a batch with room for so many, or number and place.
 fn yard_into(table: &[u8], rows: &BatchRows, room: usize) -> Result<(Vec<Status>, usize), (u64, usize)> {
     match tick_all(table, rows.batch(), room) {

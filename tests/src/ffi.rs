@@ -5,7 +5,7 @@
 
 use std::sync::atomic::{AtomicU64, Ordering};
 
-use bay_tests::engine::{Batch, Card, Columns, Condition, Lent, TeamLent};
+use bay_tests::engine::{Batch, Card, Columns, Condition, Lent, Lists, TeamLent};
 
 extern "C" {
     fn bay_read_table(table: *const u8, table_len: usize, answer: *mut u64) -> u64;
@@ -95,6 +95,21 @@ extern "C" {
         absences_len: usize,
         present: u64,
         absent: u64,
+        answer: *mut u64,
+    ) -> u64;
+    fn bay_recover_list(
+        table: *const u8,
+        table_len: usize,
+        tree: *const u8,
+        tree_len: usize,
+        conditions: *mut u64,
+        conditions_len: usize,
+        jobs: *mut u8,
+        jobs_len: usize,
+        parents: *mut u16,
+        parents_len: usize,
+        depths: *mut u16,
+        depths_len: usize,
         answer: *mut u64,
     ) -> u64;
     fn bay_tick(
@@ -310,6 +325,26 @@ pub fn newest_weaker(listed: &[u64], absences: &[u64], condition: Condition) -> 
             absences.len(),
             condition.present,
             condition.absent,
+            answer,
+        )
+    })
+}
+
+pub fn recover_list(table: &[u8], tree: &[u8], lists: Lists) -> [u64; 2] {
+    answer_of(|answer| unsafe {
+        bay_recover_list(
+            table.as_ptr(),
+            table.len(),
+            tree.as_ptr(),
+            tree.len(),
+            lists.conditions.as_mut_ptr(),
+            lists.conditions.len(),
+            lists.jobs.as_mut_ptr(),
+            lists.jobs.len(),
+            lists.parents.as_mut_ptr(),
+            lists.parents.len(),
+            lists.depths.as_mut_ptr(),
+            lists.depths.len(),
             answer,
         )
     })

@@ -1,6 +1,6 @@
 //! Document 01's trailer on the hitch, and the same with one fact less.
 
-use crate::engine::{table_bytes, Job};
+use crate::engine::{table_bytes, Condition, Entry, Job, NO_JOB};
 
 pub const FACTS: u8 = 5;
 pub const GOAL: u64 = 0x10;
@@ -36,6 +36,23 @@ pub const PRINTED: &str = "plan 8 111
 7 0000000000000002 3 4 4
 way 4 26
 ";
+
+/// The whole list (document 02, W2). Those that document 01 prints are the first eight.
+pub fn whole_list() -> Vec<Entry> {
+    let rows = [
+        (0x10, NO_JOB, 0, 0),
+        (0x0c, 4, 0, 1),
+        (0x09, 2, 1, 2),
+        (0x06, 3, 1, 2),
+        (0x0a, 1, 2, 3),
+        (0x03, 3, 2, 3),
+        (0x05, 0, 3, 3),
+        (0x02, 3, 4, 4),
+        (0x01, 2, 6, 4),
+    ];
+    let entry = |(mask, job, parent, depth)| Entry { condition: Condition::plain(mask), job, parent, depth };
+    rows.map(entry).to_vec()
+}
 
 /// Licences of two fitters at the trailer, with one fact less too (document 02, W12): the first measures, the second couples and uncouples, and both
 /// may seal.

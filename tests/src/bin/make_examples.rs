@@ -1,11 +1,12 @@
-//! Writes the files of the example folders: bay.tab, start.bay and expected.txt, which is what `bayplan` prints there.
+//! Writes the files of the example folders: bay.tab, start.bay and expected.txt, which is what `bayplan` prints there; and plan.tree, where there is a
+//! plan.
 //!
 //!     make_examples FOLDER
 
 use std::fs;
 use std::path::Path;
 
-use bay_tests::engine::{bayplan, table_bytes, Job};
+use bay_tests::engine::{bayplan, plan, table_bytes, Job, Lent};
 use bay_tests::trailer::{self, one_fact_less};
 
 /// A truck with two axles, driven at the rear.
@@ -41,12 +42,18 @@ fn truck_jobs() -> Vec<Job> {
     ]
 }
 
-fn write(root: &Path, name: &str, table: &[u8], start: &[u8]) {
+/// The files of a folder, for a start that is fully read.
+fn write(root: &Path, name: &str, table: &[u8], held: u64) {
     let folder = root.join(name);
     fs::create_dir_all(&folder).expect("the folder can be made");
-    let text = bayplan(table, start);
-    for (file, bytes) in [("bay.tab", table), ("start.bay", start), ("expected.txt", text.as_bytes())] {
-        fs::write(folder.join(file), bytes).expect("the file can be written");
+    let write = |file: &str, bytes: &[u8]| fs::write(folder.join(file), bytes).expect("the file can be written");
+    let start = trailer::start(held, 0);
+    write("bay.tab", table);
+    write("start.bay", &start);
+    write("expected.txt", bayplan(table, &start).as_bytes());
+    let mut lent = Lent::full();
+    if let Ok(planned) = plan(table, held, 0, &mut lent) {
+        write("plan.tree", &lent.tree[..planned.tree_bytes]);
     }
 }
 
@@ -57,19 +64,19 @@ fn main() {
     };
     let root = Path::new(&root);
     let trailer_table = trailer::table();
-    write(root, "trailer", &trailer_table, &trailer::start(0x02, 0));
+    write(root, "trailer", &trailer_table, 0x02);
 
-    write(root, "trailer_one_fact_less", &one_fact_less::table(), &trailer::start(0x01, 0));
+    write(root, "trailer_one_fact_less", &one_fact_less::table(), 0x01);
 
     let truck_table = table_bytes(truck::FACTS, &truck_jobs(), truck::SEALED);
     let arrives = truck::ON_THE_FLOOR | truck::OLD_SEAL_ON;
-    write(root, "truck_two_axles", &truck_table, &trailer::start(arrives, 0));
+    write(root, "truck_two_axles", &truck_table, arrives);
 
     // The same truck without an old seal: only taking one off leads to a sealed truck.
-    write(root, "no_way", &truck_table, &trailer::start(truck::ON_THE_FLOOR, 0));
+    write(root, "no_way", &truck_table, truck::ON_THE_FLOOR);
 
     // Measuring unloaded adds fact 5, which a table of five facts has not.
     let mut damaged = trailer_table;
     damaged[56 + 9] |= 0x20;
-    write(root, "damaged_table", &damaged, &trailer::start(0x02, 0));
+    write(root, "damaged_table", &damaged, 0x02);
 }

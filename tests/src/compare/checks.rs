@@ -3,8 +3,8 @@
 //! The library gets copies of the inputs, which must come back unchanged. A difference panics with the case.
 
 use bay_tests::engine::{
-    self, Batch, BatchTicked, Card, Columns, Condition, Job, Lengths, Lent, Planned, Refusal, ShiftPlanned, Status,
-    Table, TeamLent, TeamPlanned, Ticked, Unwritten,
+    self, Batch, BatchTicked, Card, Columns, Condition, Job, Lengths, Lent, ListLengths, Planned, Refusal,
+    ShiftPlanned, Status, Table, TeamLent, TeamPlanned, Ticked, Unwritten,
 };
 use bay_tests::make::BatchRows;
 
@@ -24,7 +24,7 @@ fn reached(function: &'static str, number: u64) {
 }
 
 /// The numbers that each function can give.
-const NUMBERS: [(&str, &[u64]); 12] = [
+const NUMBERS: [(&str, &[u64]); 13] = [
     ("read_table", &[0, 1, 2, 3, 4, 5, 6, 7, 19, 22]),
     ("read_job", &[0, 1, 2, 3, 4, 5, 6, 7, 16, 19, 22]),
     ("write_table", &[0, 3, 4, 5, 6, 19, 22, ffi::TOO_SHORT, ffi::UNEVEN, ffi::UNWRITABLE]),
@@ -32,6 +32,7 @@ const NUMBERS: [(&str, &[u64]); 12] = [
     ("plan", &[0, 1, 2, 3, 4, 5, 6, 7, 8, 9, 10, 11, 12, 19, 22]),
     ("plan_shift", &[0, 1, 2, 3, 4, 5, 6, 7, 10, 12, 19, 22]),
     ("plan_team", &[0, 1, 2, 3, 4, 5, 6, 7, 8, 9, 10, 11, 12, 19, 22, 24]),
+    ("recover_list", &[0, 1, 2, 3, 4, 5, 6, 7, 10, 13, 14, 15, 19, 20, 22]),
     ("tick", &[0, 1, 2, 3, 4, 5, 6, 7, 8, 13, 14, 15, 19, 22]),
     ("tick_all", &[0, 1, 2, 3, 4, 5, 6, 7, 8, 13, 15, 19, 22]),
     ("open", &[0, 1, 2, 3, 4, 5, 6, 7, 8, 19, 22]),
@@ -106,7 +107,7 @@ fn no_difference<const N: usize>(differences: [Option<String>; N], case: impl Fn
     }
 }
 
-/// The slices that a plan is lent.
+/// The slices that a plan, or a recovery of its list, is lent.
 trait Slices: Clone {
     fn lengths(&self) -> Vec<usize>;
 
@@ -197,7 +198,7 @@ pub fn write_table(
     (result, out)
 }
 
-/// One plan into the slices that it is lent.
+/// One plan, or one recovery of its list, into the slices that it is lent.
 fn into_lent<L: Slices, T, const N: usize>(
     function: &'static str,
     table: &[u8],
@@ -210,7 +211,7 @@ fn into_lent<L: Slices, T, const N: usize>(
     let (mut lent, mut library_lent) = (unwritten.clone(), unwritten);
     let result = by_engine(table, &mut lent);
     let expected = match &result {
-        Ok(planned) => words(planned),
+        Ok(done) => words(done),
         Err(refusal) => refused(refusal),
     };
     let copy = table.to_vec();
@@ -283,6 +284,27 @@ pub fn plan_team(
     done
 }
 
+/// A recovery of a tree's list, into list tables of these lengths, with more elements past each; gives them all.
+pub fn recover_list(table: &[u8], tree: &[u8], lengths: ListLengths, pattern: u64) -> (Result<usize, Refusal>, Lent) {
+    let [conditions, jobs, parents, depths] = lengths.map(|length| length + SPARE);
+    let unwritten = Lent::filled([conditions, 0, jobs, parents, depths, 0], pattern);
+    // A cut tree would go on with END.
+    let bytes = with_spare(tree, engine::END_OF_TREE);
+    let copy = bytes.clone();
+    let operands = || format!("tree {} into {lengths:?}", hex(tree));
+    let done = into_lent(
+        "recover_list",
+        table,
+        unwritten,
+        operands,
+        |table, lent| engine::recover(table, tree, lent.lists().first(lengths)),
+        |entries| [0, *entries as u64],
+        |table, lent| ffi::recover_list(table, &copy[..tree.len()], lent.lists().first(lengths)),
+    );
+    same(&copy, &bytes, operands);
+    done
+}
+
 pub fn status_words(status: Status) -> (u64, u64) {
     match status {
         Status::Success => (ffi::SUCCESS, 0),
@@ -314,7 +336,8 @@ pub fn tick(table: &[u8], tree: &[u8], held: u64, unread: u64) -> Result<Ticked,
     result
 }
 
-/// Elements past each row of numbers that is lent. Read, they would be refused, as facts, jobs, readings and licences; written, they would be seen.
+/// Elements past each row of numbers that is lent. Read, they would be refused, as facts, jobs, readings and licences, or be part of a tree; written, they
+/// would be seen.
 const SPARE: usize = 3;
 
 fn with_spare<T: Copy>(row: &[T], spare: T) -> Vec<T> {

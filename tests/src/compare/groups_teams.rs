@@ -36,8 +36,8 @@ pub fn groups() -> Vec<Vec<Group>> {
 }
 
 /// A plan for two fitters that was done.
-struct Team {
-    list: Vec<Entry>,
+pub struct Team {
+    pub list: Vec<Entry>,
     /// In the order of `FITTERS`.
     trees: [Vec<u8>; 2],
 }
@@ -52,7 +52,7 @@ impl Team {
         Team { list, trees }
     }
 
-    fn tree(&self, fitter: Fitter) -> &[u8] {
+    pub fn tree(&self, fitter: Fitter) -> &[u8] {
         &self.trees[fitter as usize]
     }
 
@@ -73,7 +73,7 @@ fn number(result: Result<TeamPlanned, Refusal>) -> Result<TeamPlanned, (u64, usi
 }
 
 /// A plan for two fitters from a start, into just as much as it needs, or None where there is no way.
-fn team(random: &mut Random, table: &Table, licences: &[u8], start: u64) -> Option<Team> {
+pub fn team(random: &mut Random, table: &Table, licences: &[u8], start: u64) -> Option<Team> {
     let (list, ending) = expand(table, Some(start), table.most_entries());
     let lengths = TeamLengths::exactly(table, &list, licences);
     let (result, lent) = checks::plan_team(&table.bytes(), licences, start, 0, lengths, random.next());
@@ -160,7 +160,7 @@ fn small(random: &mut Random, index: u64, kind: Jobs) {
 }
 
 /// A table with so few jobs that every row of licences can be tried; now and then it has none.
-fn table_of_few_jobs(random: &mut Random, index: u64, kind: Jobs) -> Table {
+pub fn table_of_few_jobs(random: &mut Random, index: u64, kind: Jobs) -> Table {
     let facts = random.between(3, 5) as u32;
     let mut table = match index {
         0 => return trailer_of(kind).0,

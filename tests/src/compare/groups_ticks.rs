@@ -341,7 +341,7 @@ fn longest(_: &mut Random, index: u64) {
 }
 
 /// A tree of so many waiting leaves, which are the shortest nodes: 3 + 16 x 3 for the seventeen inner ones, END.
-fn most_leaves(leaves: usize) -> Vec<u8> {
+pub fn most_leaves(leaves: usize) -> Vec<u8> {
     let mut bytes = make::inner(FALLBACK, 16);
     for i in 0..16 {
         let children = leaves / 16 + usize::from(i < leaves % 16);

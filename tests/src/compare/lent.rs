@@ -101,6 +101,13 @@ pub fn team_tree_bytes(table: &Table, list: &[Entry], licences: &[u8]) -> [usize
     [all - of_second, all - of_first]
 }
 
+/// List tables alone, in the order conditions, jobs, parents, depths: this one of another length, and the others of so many entries or more.
+pub fn list_shortest(entries: usize, shortest: usize, length: usize) -> ListLengths {
+    let mut lengths = [entries, entries + 2, entries, entries + 1];
+    lengths[shortest] = length;
+    lengths
+}
+
 /// Under a table without 0x21, sound or not, the second masks are of no account. So there they are lent in any length, none included.
 pub fn with_second_masks(table: &[u8], lengths: Lengths, pattern: u64) -> Lengths {
     let mut lengths = lengths;

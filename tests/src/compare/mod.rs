@@ -4,6 +4,7 @@ pub mod checks;
 pub mod groups_batches;
 pub mod groups_cards;
 pub mod groups_plans;
+pub mod groups_recovery;
 pub mod groups_searches;
 pub mod groups_shift;
 pub mod groups_tables;
@@ -45,6 +46,7 @@ pub fn groups() -> Vec<Group> {
         groups_ticks::groups(),
         groups_batches::groups(),
         groups_teams::groups(),
+        groups_recovery::groups(),
         groups_cards::groups(),
     ];
     all.into_iter().flatten().flatten().collect()
