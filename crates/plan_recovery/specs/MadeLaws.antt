@@ -25,15 +25,7 @@ use Rattle.builder.specs.FinishLaws.{refused-tree}
 use Rattle.builder.specs.PlanLaws.{plan-list, whole-told}
 use Rattle.tree_shows.specs.Shown.{sameBytes}
 use Rattle.recovery_parts.specs.Parts.{bytesOf, Holds}
-
--- the plan for a start, with room for n entries and for the tree of every list
-abbrev pub madeFor : Table → (start n : ℕ) → Plan Size
-madeFor t start n = tablePlan (Covers start) t (λ paired. n) (treeSize false (maxEntries false)) (sizeOf (pairs t))
-
--- what the tables then hold, and whether its tree has these bytes
-pub record Compares (P : Plan Size) (before after : Columns) (tree : List ℕ) (same : Bool) : Type 0 where
-  pub is-same : same ≡ sameBytes (P .tree) tree
-  pub tables : after ≡ written false (P .list) before
+use Rattle.plan_recovery.specs.Made.{madeFor, Compares}
 
 -- ---- what is told of the bytes
 

@@ -31,7 +31,7 @@ use Rattle.tree_shows.specs.ShownLaws.{same-bytes, bytes-same}
 use Rattle.recovery_parts.specs.Parts.{judgedFor, toldOf, copied, Holds}
 use Rattle.recovery_parts.specs.PartsLaws.{copied-list}
 use Rattle.plan_recovery.specs.Recovery.{listIf, listOf, fitting, recovered, WritesBack}
-use Rattle.plan_recovery.specs.MadeLaws.{madeFor, Compares}
+use Rattle.plan_recovery.specs.Made.{madeFor, Compares}
 use Rattle.plan_recovery.specs.RecoveryLaws.{Source, source-few, source-size, shown-plan, plan-is, wrote-source, wrote-same, source-list}
 use Rattle.plan_recovery.specs.RecoveryLaws.{list-cases, paired-list, sound-told, sound-recovered, bad-recovered}
 

@@ -19,11 +19,14 @@ use Rattle.plan_recovery.proofs.recover.Tie as tie
 abbrev Read : Type 0
 Read = tie.After-sound-tree
 
+abbrev known-of : Read → tie.After-shared-slice-known
+known-of c = c .before .before .before .before .before .before
+
 abbrev start-of : Read → tie.Start
-start-of c = c .before .before .before .before .before .before .before
+start-of c = known-of c .before
 
 bytes : (c : Read) → AreBytes (start-of c .args .table .now)
-bytes c = λ i. c .before .before .before .before .before .before .shared-slice-known .given i .fits
+bytes c = λ i. known-of c .shared-slice-known .given i .fits
 
 abbrev sound-of : Read → Checked Table
 sound-of c = soundTree (start-of c .args .table .now) (start-of c .args .tree .now)
@@ -42,6 +45,10 @@ header-is c = ap tableReadOf (sym (c .header .given .1)) ∙ read-of c .sound-tr
 -- the tables are lent on
 abbrev lending-of : tie.After-recover-under-arg4 → Sound
 lending-of c = c .before .before .before .before .before
+
+-- and are back
+abbrev recovered-of : tie.After-slice-known8 → tie.After-recover-under
+recovered-of c = c .before .before .before .before .before .before .before .before
 
 -- ---- the answers, in the order of the code
 
@@ -78,7 +85,7 @@ same-length-4 c = search needs
 
 returns-2 : tie.Need-returns-2
 returns-2 c =
-    let b = c .before .before .before .before .before .before .before .before in
+    let b = recovered-of c in
     let h = lending-of (b .before) in
     let t = headed-sound (sound-of (read-of h)) (header-is h) in
     recovery-kept (start-of (read-of h) .args .table .now) (bytes (read-of h)) _ _ _ _

@@ -29,8 +29,11 @@ use Rattle.plan_recovery.proofs.recover_under.Tie as tie
 abbrev Shown : Type 0
 Shown = tie.After-entries-shown
 
+abbrev known-of : Shown → tie.After-shared-slice-known
+known-of c = c .before .before .before .before .before .before
+
 abbrev start-of : Shown → tie.Start
-start-of c = c .before .before .before .before .before .before .before
+start-of c = known-of c .before
 
 abbrev entries-of : Shown → ℕ
 entries-of c = c .entries-shown .result
@@ -42,7 +45,7 @@ abbrev tree-bytes : Shown → List ℕ
 tree-bytes c = start-of c .args .tree .now
 
 are-bytes : (c : Shown) → AreBytes (table-bytes c)
-are-bytes c = λ i. c .before .before .before .before .before .before .shared-slice-known .given i .fits
+are-bytes c = λ i. known-of c .shared-slice-known .given i .fits
 
 table-of : (c : Shown) → (t : Table) × (accepted t ≡ soundTree (table-bytes c) (tree-bytes c)) × (headerOf t ≡ start-of c .args .header)
 table-of c = headed-sound (soundTree (table-bytes c) (tree-bytes c)) (start-of c .pre)
@@ -75,8 +78,12 @@ plain c t e some = shows c t e .shown some .0
 abbrev Made : Type 0
 Made = tie.After-build
 
+-- all that it takes is lent
+abbrev masked-of : tie.After-bytes → tie.After-last-mask
+masked-of c = c .before .before .before .before .before .before
+
 abbrev mask-of : Made → tie.After-last-mask
-mask-of c = c .before .before .before .before .before .before .before
+mask-of c = masked-of (c .before)
 
 abbrev some-of : Made → Some
 some-of c = mask-of c .before
@@ -152,7 +159,7 @@ slice-aggregate-build-6 c = search needs
 
 build-requires : tie.Need-build-requires
 build-requires c κs =
-    let k = c .before .before .before .before .before .before .before in
+    let k = masked-of c .before in
     let u = table-of (k .before) in
     ap accepted (sym (u .2)) ∙ ap headed (read (k .before) (u .0) (u .1))
 
