@@ -33,20 +33,20 @@ use Rattle.builder.specs.Plan.{jobOf, tableActions, pairs}
 
 -- ---- rows of a table's masks hold its actions
 
-abbrev needs : List Job → List ℕ
+abbrev pub needs : List Job → List ℕ
 needs jobs = map (λ j. actionOf j .needs) jobs
 
-abbrev adds : List Job → List ℕ
+abbrev pub adds : List Job → List ℕ
 adds jobs = map (λ j. actionOf j .adds) jobs
 
-abbrev deletes : List Job → List ℕ
+abbrev pub deletes : List Job → List ℕ
 deletes jobs = map (λ j. actionOf j .deletes) jobs
 
 row-mask : (field : Job → ℕ) (jobs : List Job) (a : ℕ) → field noJob ≡ 0 → getD (map field jobs) a 0 ≡ field (getD jobs a noJob)
 row-mask field jobs a z = ap (getD (map field jobs) a) (sym z) ∙ List·getD-map field jobs a noJob
 
 -- the row of absent facts, which is lent for a table with a 0x21 alone
-abbrev absents : Bool → List Job → List ℕ
+abbrev pub absents : Bool → List Job → List ℕ
 absents true jobs = map (λ j. actionOf j .absent) jobs
 absents false jobs = []
 
@@ -74,7 +74,7 @@ module _ (jobs : List Job) (paired : Bool) (none : paired ≡ false → (a : ℕ
 same-actions : {n m : ℕ} {f g : ℕ → Action} → n ≡ m → f ≡ g → _≡_ {A = Actions} (record { count = n; action = f }) (record { count = m; action = g })
 same-actions a b = rw (a, b)
 
-rows-actions : (t : Table) (paired : Bool) → (paired ≡ false → (a : ℕ) → getD (t .jobs) a noJob .absent ≡ 0) → length (t .jobs) ≤ maxJobs
+pub rows-actions : (t : Table) (paired : Bool) → (paired ≡ false → (a : ℕ) → getD (t .jobs) a noJob .absent ≡ 0) → length (t .jobs) ≤ maxJobs
     → actionsOf (needs (t .jobs)) (absents paired (t .jobs)) (adds (t .jobs)) (deletes (t .jobs)) ≡ tableActions t
 rows-actions t paired none few =
     same-actions
@@ -114,7 +114,7 @@ module _ (s : List ℕ) (b : AreBytes s) (h : Header) (e : accepted h ≡ headed
       by-kind false q = refl
 
   module _ (t : Table) (r : accepted t ≡ readTable s) where
-    same-header : headerOf t ≡ h
+    pub same-header : headerOf t ≡ h
     same-header =
         let f = headed-sound (readTable s) e in
         ap headerOf (accepted-same (r ∙ sym (f .1))) ∙ f .2

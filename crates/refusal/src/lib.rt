@@ -48,6 +48,10 @@ pub enum Reason {
     NeedsContradict,
     // The licences are not as many as the jobs, or one is none.
     BadLicences,
+    // Distances are asked for under more than 15 facts.
+    TooManyFacts,
+    // The row has not one number for each state.
+    BadRowLength,
 }
 
 pub struct Refusal {
@@ -82,5 +86,7 @@ pub fn number(reason: Reason) -> u8
         Reason::OtherOrigin => 20,
         Reason::NeedsContradict => 22,
         Reason::BadLicences => 24,
+        Reason::TooManyFacts => 25,
+        Reason::BadRowLength => 26,
     }
 }

@@ -2,7 +2,7 @@
 -- Assumes nothing.
 use Prim.Native.Nat.{ℕ, _≤_}
 use native.Mathlib.Omega.{arith}
-use mathlib.Core.Path.{_≡_, refl, sym, ap}
+use mathlib.Core.Path.{_≡_, refl, sym, ap, _∙_}
 use mathlib.Core.Bool.{Bool, false}
 use mathlib.Core.List.{List}
 use mathlib.Core.Logic.{_↔_, ⊎-elim}
@@ -43,8 +43,7 @@ never-11 (full l) p e = let z : _≡_ {A = ℕ} 10 11 = cc in omega arith
 never-11 (exhausted l) p e = not-both (sym e)
 never-11 (covered l) p e = not-both (sym e)
 
-module _ (table : List ℕ) (b : AreBytes table) (t : Table) (e : readTable table ≡ accepted t) (capacity : Bool → ℕ) (size : ℕ)
-    (few : (paired : Bool) → capacity paired ≤ maxEntries paired) where
+module _ (table : List ℕ) (t : Table) (e : readTable table ≡ accepted t) (capacity : Bool → ℕ) (size : ℕ) where
   abbrev paired : Bool
   paired = pairs t
 
@@ -61,34 +60,38 @@ module _ (table : List ℕ) (b : AreBytes table) (t : Table) (e : readTable tabl
   unfolding planShift tablePlan
   read = rw e
 
-  -- the list of an accepted plan, and that every entry of it is expanded
-  ended : (p : Size) → whole .answer ≡ accepted p → (l : List (Entry Condition)) × (outcome ≡ exhausted l) × (whole .list ≡ l)
+  -- every entry of the list of an accepted plan is expanded
+  ended : (p : Size) → whole .answer ≡ accepted p → outcome ≡ exhausted (whole .list)
   ended p a =
       let w = whole-told paired Never size (sizeOf paired) outcome p a in
-      (w .list, exhausted-told outcome (w .list) (fact-unending (tableActions t) (plain (t .goal)) most) (w .listed), ap (λ (P : Plan Size). P .list) (w .plan-is))
+      exhausted-told outcome (w .list) (fact-unending (tableActions t) (plain (t .goal)) most) (w .listed) ∙ ap exhausted (sym (ap (λ (P : Plan Size). P .list) (w .plan-is)))
 
-  works : (p : Size) → whole .answer ≡ accepted p → FewestJobs t table (whole .list) (whole .tree)
-  works p a =
-      let w = whole-told paired Never size (sizeOf paired) outcome p a in
-      let q = exhausted-told outcome (w .list) (fact-unending (tableActions t) (plain (t .goal)) most) (w .listed) in
-      rw (w .plan-is) (list-works table b t e most Never (few paired) (w .list)
-      (exhausted-nonempty (fact-plannable (tableActions t) (plain (t .goal))) most (λ c. false) (w .list) q) (ap entries q))
+  pub shift-ended : (p : Size) → planShift table capacity size .answer ≡ accepted p → outcome ≡ exhausted (planShift table capacity size .list)
+  shift-ended p a = rw read (ended p (rw read at a))
 
-  covers : (p : Size) → whole .answer ≡ accepted p → (s : ℕ) → CoveredBy (tableDomain t) (whole .list) s ↔ ((w : List ℕ) × Reaches (tableDomain t) s w)
-  covers p a = let x = ended p a in rw (x .2) (fact-covered-iff (tableActions t) (plain (t .goal)) most (λ c. false) (separate table b t e most Never) (x .0) (x .1))
+  module _ (b : AreBytes table) (few : (paired : Bool) → capacity paired ≤ maxEntries paired) where
+    works : (p : Size) → whole .answer ≡ accepted p → FewestJobs t table (whole .list) (whole .tree)
+    works p a =
+        let w = whole-told paired Never size (sizeOf paired) outcome p a in
+        let q = ended p a ∙ ap exhausted (ap (λ (P : Plan Size). P .list) (w .plan-is)) in
+        rw (w .plan-is) (list-works table b t e most Never (few paired) (w .list)
+        (exhausted-nonempty (fact-plannable (tableActions t) (plain (t .goal))) most (λ c. false) (w .list) q) (ap entries q))
 
-  stops : (n p : ℕ) → whole .answer ≡ refused n p → NoRoom paired most size (whole .list) n p
-  stops n p a =
-      ⊎-elim (λ f. absurd (never-11 outcome p (rw (f .0) at (f .2)))) (λ f. f) (plan-stops table b t e most Never size (sizeOf paired) n p a)
+    covers : (p : Size) → whole .answer ≡ accepted p → (s : ℕ) → CoveredBy (tableDomain t) (whole .list) s ↔ ((w : List ℕ) × Reaches (tableDomain t) s w)
+    covers p a = fact-covered-iff (tableActions t) (plain (t .goal)) most (λ c. false) (separate table b t e most Never) (whole .list) (ended p a)
 
-  pub every-shift : Serves t table capacity size (planShift table capacity size)
-  every-shift =
-      rw read (record {
-        works = works;
-        covers = covers;
-        stops = stops;
-        irredundant = rw (plan-list paired (sizeOf paired) Never size outcome) (list-irredundant table b t e most Never);
-      })
+    stops : (n p : ℕ) → whole .answer ≡ refused n p → NoRoom paired most size (whole .list) n p
+    stops n p a =
+        ⊎-elim (λ f. absurd (never-11 outcome p (rw (f .0) at (f .2)))) (λ f. f) (plan-stops table b t e most Never size (sizeOf paired) n p a)
+
+    pub every-shift : Serves t table capacity size (planShift table capacity size)
+    every-shift =
+        rw read (record {
+          works = works;
+          covers = covers;
+          stops = stops;
+          irredundant = rw (plan-list paired (sizeOf paired) Never size outcome) (list-irredundant table b t e most Never);
+        })
 
 -- ---- the parts of the code
 
@@ -106,5 +109,5 @@ pub shift-kept : (table : List ℕ) → AreBytes table → (before after : Colum
 shift-kept table b before after lent tree r w =
     record {
       writes = w;
-      serves = λ t e. every-shift table b t e (room before) (length lent) (columns-few before);
+      serves = λ t e. every-shift table t e (room before) (length lent) b (columns-few before);
     }
