@@ -1,0 +1,3 @@
+pub mod Distance
+pub mod Steps
+pub mod NearestLaws
