@@ -1,0 +1,2 @@
+pub mod DistanceWords
+pub mod DistanceWordLaws
