@@ -1,0 +1,2 @@
+pub mod DistanceCases
+pub mod DistanceComputed
