@@ -6,7 +6,7 @@ use mathlib.Core.Path.{_≡_, refl, sym, ap, _∙_}
 use mathlib.Core.Bool.{Bool, true, false, true≢false}
 use mathlib.Core.List.{List, map}
 use lib.Dec.{leb, eqb}
-use borrow.Author.Tests.{leb-true, eqb-true, le-leb, lt-leb}
+use borrow.Author.Tests.{leb-true, eqb-true, le-leb, lt-leb, eq-eqb, ne-eqb}
 use lib.ListN.{length, getD, take, length-map}
 use lib.Pow.{pow-mono}
 use Rattle.base.specs.Bools.{if_then_else_}
@@ -105,13 +105,13 @@ module _ (facts size : ℕ) where
   row-many h = rw (lt-leb facts mostFacts h)
 
   module _ (few : facts ≤ mostFacts) where
-    pub row-whole : eqb size (2 ^ facts) ≡ true → accepted (2 ^ facts) ≡ checkedRow facts size
+    pub row-whole : size ≡ 2 ^ facts → accepted (2 ^ facts) ≡ checkedRow facts size
     unfolding checkedRow
-    row-whole e = rw (le-leb facts mostFacts few, e)
+    row-whole e = rw (le-leb facts mostFacts few, eq-eqb size (2 ^ facts) e)
 
-    pub row-other : eqb size (2 ^ facts) ≡ false → refused 26 0 ≡ checkedRow facts size
+    pub row-other : (size ≡ 2 ^ facts → ⊥) → refused 26 0 ≡ checkedRow facts size
     unfolding checkedRow
-    row-other e = rw (le-leb facts mostFacts few, e)
+    row-other q = rw (le-leb facts mostFacts few, ne-eqb size (2 ^ facts) q)
 
   -- what an accepted row says of them
   pub row-told : (n : ℕ) → accepted n ≡ checkedRow facts size → (facts ≤ mostFacts) × (size ≡ 2 ^ facts) × (n ≡ 2 ^ facts)

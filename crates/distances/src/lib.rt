@@ -5,7 +5,6 @@ use table::Header;
 use table::TableRead;
 ghost use mathlib.Core.Path.{_≡_};
 ghost use Prim.Native.Nat.{_≤_, _^_};
-ghost use lib.Dec.{eqb};
 ghost use lib.ListN.{length};
 ghost use Rattle.refusal.specs.Checked.{accepted};
 ghost use Rattle.conditions.specs.Condition.{plain};
@@ -39,12 +38,6 @@ fn refuse(reason: Reason) -> Measured
 }
 
 // Has a row of this length a number for each state, and none more?
-fn is_row(length: usize, states: usize) -> bool
-    ensures { λ r. ⌜ r ≡ eqb length states ⌝ }
-{
-    length == states
-}
-
 fn check_row(facts: u8, length: usize) -> Measured
     ensures { λ r. ⌜ measuredOf r ≡ checkedRow facts length ⌝ }
 {
@@ -52,10 +45,13 @@ fn check_row(facts: u8, length: usize) -> Measured
         return refuse(Reason::TooManyFacts);
     }
     let states = states_of(facts);
-    if is_row(length, states) {
-        return Measured::States(states);
+    if length < states {
+        return refuse(Reason::BadRowLength);
     }
-    refuse(Reason::BadRowLength)
+    if states < length {
+        return refuse(Reason::BadRowLength);
+    }
+    Measured::States(states)
 }
 
 // Gives every state of a sound table its distance.
