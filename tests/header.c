@@ -377,6 +377,137 @@ static void recoveries(void) {
     DONE(bay_tree_plan(table, reading(0x02, 0), room(9, 200)));
 }
 
+static uint16_t distances[BAY_MAX_STATES + 1];
+
+/* A row for distances, all of it filled with a pattern. */
+static uint16_t *distance_row(void) {
+    memset(distances, 0xa5, sizeof distances);
+    return distances;
+}
+
+/* Elements from this one on are as they were lent. */
+static int unmeasured(size_t from) {
+    int same = 1;
+    for (size_t i = from; i < BAY_MAX_STATES + 1; i++) {
+        same = same && distances[i] == 0xa5a5;
+    }
+    return same;
+}
+
+/* A state's distance by the list for the whole shift, which was planned last: the depth of the first entry that it meets. */
+static uint16_t depth_met(uint64_t held, size_t entries, int paired) {
+    for (size_t i = 0; i < entries; i++) {
+        if ((conditions[i] & ~held) == 0 && (!paired || (absences[i] & held) == 0)) {
+            return depths[i];
+        }
+    }
+    return BAY_NO_DISTANCE;
+}
+
+static int measured_as_planned(size_t states, size_t entries, int paired) {
+    int same = 1;
+    for (size_t held = 0; held < states; held++) {
+        same = same && distances[held] == depth_met(held, entries, paired);
+    }
+    return same;
+}
+
+/* A table without jobs, whose goal is its last fact. */
+static struct bay_table without_jobs(size_t facts) {
+    static uint8_t bytes[12];
+    struct bay_columns columns = {commands, none, none, none, none, seconds, 0};
+    struct bay_written written = bay_table_write(facts, columns, (uint64_t)1 << (facts - 1), bytes, sizeof bytes);
+    struct bay_table table = {bytes, written.bytes};
+    DONE(written);
+    return table;
+}
+
+static void measures(void) {
+    /* The sixteen states in which it is sealed follow: 0. */
+    static const uint16_t trailer[32] = {BAY_NO_DISTANCE, 4, 4, 3, BAY_NO_DISTANCE, 3, 2, 2, BAY_NO_DISTANCE, 2, 3, 2, 1, 1, 1, 1};
+    struct bay_table table = first(147);
+    struct bay_measured measured = bay_distances_measure(table, distance_row(), 32);
+    DONE(measured);
+    CHECK(measured.states == 32 && memcmp(distances, trailer, sizeof trailer) == 0 && unmeasured(32));
+    DONE(bay_tree_plan_shift(table, room(9, 200)));
+    CHECK(measured_as_planned(32, 9, 0));
+    DONE(bay_tree_plan(table, reading(0x02, 0), room(9, 200)));
+
+    /* One element too few, one too many, as many as another table has, none, and more than there can be. */
+    static const size_t lengths[] = {31, 33, 16, 64, 0, 5, BAY_MAX_STATES, BAY_MAX_STATES + 1};
+    for (size_t i = 0; i < sizeof lengths / sizeof lengths[0]; i++) {
+        measured = bay_distances_measure(table, distance_row(), lengths[i]);
+        REFUSED(measured, BAY_BAD_ROW_LENGTH, 0);
+        CHECK(measured.states == 0 && unmeasured(0));
+    }
+    /* The table comes before that. */
+    measured = bay_distances_measure(first(146), distance_row(), 32);
+    REFUSED(measured, BAY_TABLE_CUT, 146);
+    CHECK(measured.states == 0 && unmeasured(0));
+    REFUSED(bay_distances_measure(first(148), distance_row(), 0), BAY_BYTES_AFTER_TABLE, 147);
+    CHECK(unmeasured(0));
+
+    /* One fact, the most facts, and more: 25 comes before 26, and after all of the table. */
+    measured = bay_distances_measure(without_jobs(1), distance_row(), 2);
+    DONE(measured);
+    CHECK(measured.states == 2 && distances[0] == BAY_NO_DISTANCE && distances[1] == 0 && unmeasured(2));
+    measured = bay_distances_measure(without_jobs(BAY_MAX_MEASURED_FACTS), distance_row(), BAY_MAX_STATES);
+    DONE(measured);
+    CHECK(measured.states == BAY_MAX_STATES && distances[0] == BAY_NO_DISTANCE && distances[0x3fff] == BAY_NO_DISTANCE);
+    CHECK(distances[0x4000] == 0 && distances[0x7fff] == 0 && unmeasured(BAY_MAX_STATES));
+    REFUSED(bay_distances_measure(without_jobs(BAY_MAX_MEASURED_FACTS), distance_row(), BAY_MAX_STATES - 1), BAY_BAD_ROW_LENGTH, 0);
+    static const size_t too_many[] = {16, 17, 31, 32, 64};
+    for (size_t i = 0; i < sizeof too_many / sizeof too_many[0]; i++) {
+        struct bay_table wide = without_jobs(too_many[i]);
+        measured = bay_distances_measure(wide, distance_row(), BAY_MAX_STATES);
+        REFUSED(measured, BAY_TOO_MANY_FACTS, 0);
+        CHECK(measured.states == 0 && unmeasured(0));
+        REFUSED(bay_distances_measure(wide, distance_row(), 0), BAY_TOO_MANY_FACTS, 0);
+        REFUSED(bay_distances_measure(wide, distance_row(), 1), BAY_TOO_MANY_FACTS, 0);
+        CHECK(unmeasured(0));
+        wide.length--;
+        REFUSED(bay_distances_measure(wide, distance_row(), BAY_MAX_STATES), BAY_TABLE_CUT, wide.length);
+    }
+
+    /* The words. */
+    uint64_t answer[2];
+    CHECK(bay_measure_distances(table_bytes, 147, distance_row(), 32, answer) == BAY_OK && answer[0] == 0 && answer[1] == 32);
+    CHECK(bay_measure_distances(table_bytes, 147, distance_row(), 31, answer) == BAY_BAD_ROW_LENGTH);
+    CHECK(answer[0] == 26 && answer[1] == 0);
+    CHECK(bay_measure_distances(without_jobs(16).bytes, 12, distance_row(), 31, answer) == BAY_TOO_MANY_FACTS);
+    CHECK(answer[0] == 25 && answer[1] == 0);
+}
+
+static void pair_measures(void) {
+    /* The eight states in which it is sealed follow: 0. */
+    static const uint16_t trailer[16] = {4, 4, 3, 2, 2, 3, 1, 1};
+    struct bay_table table = {pair_table_bytes, 163};
+    struct bay_measured measured = bay_distances_measure(table, distance_row(), 16);
+    DONE(measured);
+    CHECK(measured.states == 16 && memcmp(distances, trailer, sizeof trailer) == 0 && unmeasured(16));
+    DONE(bay_tree_plan_shift(table, pair_room(8, 8, 175)));
+    CHECK(measured_as_planned(16, 8, 1));
+    REFUSED(bay_distances_measure(table, distance_row(), 15), BAY_BAD_ROW_LENGTH, 0);
+    REFUSED(bay_distances_measure(table, distance_row(), 32), BAY_BAD_ROW_LENGTH, 0);
+    CHECK(unmeasured(0));
+    table.length = 36;
+    REFUSED(bay_distances_measure(table, distance_row(), 16), BAY_TABLE_CUT, 2);
+    CHECK(unmeasured(0));
+    /* A job that needs a fact both held and absent, and one that is too long, in a table with too many facts. */
+    uint8_t stopped[2 + 35 + 10];
+    memcpy(stopped, pair_table_bytes, 2 + 35);
+    memcpy(stopped + 2 + 35, pair_table_bytes + 153, 10);
+    struct bay_table faulty = {stopped, sizeof stopped};
+    stopped[1] = 16;
+    REFUSED(bay_distances_measure(faulty, distance_row(), 16), BAY_TOO_MANY_FACTS, 0);
+    stopped[2 + 1] = 0x01;
+    stopped[2 + 1 + 16] = 0x02;
+    REFUSED(bay_distances_measure(faulty, distance_row(), 16), BAY_NEEDS_CONTRADICT, 2);
+    stopped[2 + 34] = 0xff;
+    REFUSED(bay_distances_measure(faulty, distance_row(), 16), BAY_JOB_TOO_LONG, 2);
+    CHECK(unmeasured(0));
+}
+
 /* Of the trailer the first fitter measures, the second couples and uncouples, and both may seal. */
 static const uint8_t licence_bytes[6] = {BAY_SECOND_FITTER, BAY_SECOND_FITTER, BAY_FIRST_FITTER,
                                          BAY_FIRST_FITTER,  BAY_BOTH_FITTERS,  BAY_FIRST_FITTER};
@@ -647,18 +778,21 @@ static void cards(void) {
 int main(void) {
     CHECK(BAY_MAX_TABLE_BYTES == 2 + 35 * BAY_MAX_JOBS + 10);
     CHECK(22 * BAY_MAX_PAIR_ENTRIES - 1 <= BAY_MAX_TREE_BYTES && 22 * (BAY_MAX_PAIR_ENTRIES + 1) - 1 > BAY_MAX_TREE_BYTES);
+    CHECK(BAY_MAX_STATES == 1 << BAY_MAX_MEASURED_FACTS && BAY_NO_DISTANCE >= BAY_MAX_STATES);
     tables();
     pair_tables();
     plans();
     searches();
     ticks();
     recoveries();
+    measures();
     batches();
     cards();
     teams();
     pair_plans();
     pair_batches();
     pair_teams();
+    pair_measures();
     printf("%d passed, %d failed\n", passed, failed);
     return failed != 0;
 }

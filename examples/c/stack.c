@@ -1,5 +1,6 @@
 /* Ticks the widest and the deepest trees that are legal and the one with the most leaves, plans the longest list, ticks it for a yard of
- * vehicles, and plans it for two fitters; and of each tree, recovers its list if there is one. To be run with a stack of BAY_STACK_BYTES:
+ * vehicles, and plans it for two fitters; of each tree, recovers its list if there is one; and measures the distances of the most states
+ * with the most jobs. To be run with a stack of BAY_STACK_BYTES:
  *
  *     cc -std=c99 -Iinclude examples/c/stack.c target/staticlib/libbay.a -o target/stack && (ulimit -s 256; target/stack)
  */
@@ -164,6 +165,48 @@ static struct bay_table write_table(uint64_t needed_absent) {
     return table;
 }
 
+/* Of the most facts, with the most jobs, each by the wider command: job i adds fact i % 15, needs and deletes the fact before it, and needs one
+ * further on absent, which is another in each round of 15 jobs. */
+static struct bay_table write_measured_table(void) {
+    static uint64_t needs[BAY_MAX_JOBS], absent[BAY_MAX_JOBS], adds[BAY_MAX_JOBS], deletes[BAY_MAX_JOBS];
+    static uint8_t commands[BAY_MAX_JOBS];
+    static uint16_t seconds[BAY_MAX_JOBS];
+    for (int i = 0; i < BAY_MAX_JOBS; i++) {
+        int fact = i % BAY_MAX_MEASURED_FACTS;
+        int round = i / BAY_MAX_MEASURED_FACTS;
+        commands[i] = BAY_PAIRED_JOB;
+        needs[i] = (uint64_t)1 << (fact + 14) % BAY_MAX_MEASURED_FACTS;
+        absent[i] = (uint64_t)1 << (fact + 1 + round) % BAY_MAX_MEASURED_FACTS;
+        adds[i] = (uint64_t)1 << fact;
+        deletes[i] = needs[i];
+        seconds[i] = 60;
+    }
+    struct bay_columns columns = {commands, needs, absent, adds, deletes, seconds, BAY_MAX_JOBS};
+    struct bay_written written = bay_table_write(BAY_MAX_MEASURED_FACTS, columns, 0x4001, table_bytes, sizeof table_bytes);
+    if (written.refusal != BAY_OK) {
+        printf("the table is refused: %d %zu\n", (int)written.refusal, written.place);
+    }
+    struct bay_table table = {table_bytes, written.bytes};
+    return table;
+}
+
+/* Measures the distances of all states, and prints the greatest and how many states have one. */
+static int measure(const char *name, struct bay_table table) {
+    static uint16_t row[BAY_MAX_STATES];
+    struct bay_measured measured = bay_distances_measure(table, row, BAY_MAX_STATES);
+    size_t with_way = 0;
+    unsigned greatest = 0;
+    for (size_t held = 0; held < measured.states; held++) {
+        if (row[held] != BAY_NO_DISTANCE) {
+            with_way++;
+            greatest = row[held] > greatest ? row[held] : greatest;
+        }
+    }
+    printf("%s: refusal %d, %zu states, %zu with a way, the longest of %u jobs\n", name, (int)measured.refusal, measured.states,
+           with_way, greatest);
+    return measured.refusal == BAY_OK;
+}
+
 int main(void) {
     struct bay_table table = write_table(0);
     int ok = 1;
@@ -224,5 +267,6 @@ int main(void) {
     ok &= plan("plan", table, 0);
     uint64_t every_other = 0xaaa000;
     ok &= plan("plan with pairs", write_table(every_other), every_other);
+    ok &= measure("distances", write_measured_table());
     return ok ? 0 : 1;
 }

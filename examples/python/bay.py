@@ -17,7 +17,7 @@ import ctypes
 import enum
 import operator
 from ctypes import POINTER, byref, c_int64, c_size_t, c_uint8, c_uint16, c_uint32, c_uint64, c_void_p
-from typing import NamedTuple, Optional, Tuple
+from typing import List, NamedTuple, Optional, Tuple
 
 MAX_FACTS = 64
 MAX_JOBS = 128
@@ -27,6 +27,9 @@ MAX_ENTRIES = 4096
 MAX_PAIR_ENTRIES = 2978
 MAX_TREE_BYTES = 65535
 NO_JOB = 255
+MAX_MEASURED_FACTS = 15
+MAX_STATES = 32768
+NO_DISTANCE = 65535
 
 
 class Refusal(enum.IntEnum):
@@ -55,6 +58,8 @@ class Refusal(enum.IntEnum):
     OTHER_ORIGIN = 20
     NEEDS_CONTRADICT = 22
     BAD_LICENCES = 24
+    TOO_MANY_FACTS = 25
+    BAD_ROW_LENGTH = 26
     TOO_SHORT = 100
     UNEVEN = 101
     SECONDS_OUT_OF_RANGE = 102
@@ -208,6 +213,7 @@ _PARAMETERS = {
     "bay_plan_team": _SLICE * 2 + _MASKS + _SLICE * 7 + _ANSWER,
     "bay_newest_weaker": _SLICE * 2 + _MASKS + _ANSWER,
     "bay_recover_list": _SLICE * 6 + _ANSWER,
+    "bay_measure_distances": _SLICE * 2 + _ANSWER,
     "bay_tick": _SLICE * 2 + _MASKS + _ANSWER,
     "bay_tick_all": _SLICE * 8 + _ANSWER,
     "bay_open": _SLICE + _MASKS + _CARD + _ANSWER,
@@ -351,6 +357,18 @@ class Bay:
         masks = (_number("condition", condition, 64), _number("absent", absent, 64))
         found, entry = self._call("bay_newest_weaker", 3, *rows[0], *rows[1], *masks)
         return entry if found else None
+
+    # ---- the distances of all states
+
+    def distances(self, table) -> List[Optional[int]]:
+        """The fewest jobs to the goal from each state, by the mask of the facts that it holds, or None where no jobs lead there. TOO_MANY_FACTS
+        where the table has more than MAX_MEASURED_FACTS. A long chain of jobs can take many seconds; include/bay.h says more."""
+        lent = _bytes("table", table)
+        facts, *_ = self._call("bay_read_table", 5, *lent)
+        # With too many facts the row is empty: the library refuses them before it looks at the row.
+        row, states = _row(c_uint16, [0] * (1 << facts if facts <= MAX_MEASURED_FACTS else 0))
+        self._call("bay_measure_distances", 2, *lent, row, states)
+        return [None if distance == NO_DISTANCE else distance for distance in row[:states]]
 
     # ---- the tick
 

@@ -1,5 +1,6 @@
-"""Plans the work on a trailer, follows vehicles with the one tree, looks over a yard of them in one call, recovers the list from the tree alone, and
-has two fitters work on one of them; then all but the recovery with one fact less, "trailer off" as the absence of "trailer on".
+"""Plans the work on a trailer, follows vehicles with the one tree, looks over a yard of them in one call, recovers the list from the tree alone, has
+two fitters work on one of them, and tells an instructor how far states are from the goal; then all but the recovery with one fact less, "trailer off"
+as the absence of "trailer on".
 
     python3 examples/python/plan.py target/libbay.so
 
@@ -128,6 +129,15 @@ def work_as_team(bay, workshop, table, held):
         held = (held | job.adds) & ~job.deletes
 
 
+def tell_distances(bay, workshop, table, states):
+    """How many jobs are left at the fewest, for instructors: measured for all states at once, and printed for some."""
+    distances = bay.distances(table)
+    print(f"distances: {len(distances)} states, {distances.count(None)} without a way")
+    for held in states:
+        left = "no way" if distances[held] is None else f"{distances[held]} jobs"
+        print(f"  held {workshop.named(held)}: {left}")
+
+
 def main():
     bay = Bay(sys.argv[1] if len(sys.argv) > 1 else "target/libbay.so")
     table, plan = planned(bay, TRAILER, 0x02)
@@ -137,6 +147,7 @@ def main():
     look_over(bay, TRAILER, table, plan, [Reading(0x10), Reading(0x0C), Reading(0x02, 0x08), Reading(0x0A)])
     recover(bay, table, plan)
     work_as_team(bay, TRAILER, table, 0x02)
+    tell_distances(bay, TRAILER, table, [0x02, 0x0A, 0x09, 0x08, 0x10])
 
     for name, call in [
         ("a table that is cut", lambda: bay.read_table(table[:100])),
@@ -146,6 +157,7 @@ def main():
         ("a yard whose second reading is bad", lambda: bay.tick_all(table, plan.entries, [Reading(0x02), Reading(0x20)])),
         ("a team whose fourth licence is none", lambda: bay.plan_team(table, [2, 2, 1, 4, 3], Reading(0x02))),
         ("the list of a fitter's tree", lambda: bay.recover_list(table, bay.plan_team(table, LICENCES, Reading(0x02)).first)),
+        ("the distances of a table of 16 facts", lambda: bay.distances(bay.write_table(16, TRAILER.jobs, TRAILER.goal))),
     ]:
         try:
             call()
@@ -157,6 +169,7 @@ def main():
     follow(bay, ONE_FACT_LESS, table, plan.tree, Reading(0x04, 0x01), 0x04)
     look_over(bay, ONE_FACT_LESS, table, plan, [Reading(0x04), Reading(0x04, 0x01), Reading(0x05), Reading(0x00)])
     work_as_team(bay, ONE_FACT_LESS, table, 0x01)
+    tell_distances(bay, ONE_FACT_LESS, table, [0x01, 0x05, 0x04, 0x00, 0x08])
 
 
 if __name__ == "__main__":

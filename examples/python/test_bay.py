@@ -141,6 +141,7 @@ class Ranges(unittest.TestCase):
                 lambda x: bay.plan_team(x, [], Reading()),
                 lambda x: bay.recover_list(x, b""),
                 lambda x: bay.recover_list(b"", x),
+                lambda x: bay.distances(x),
                 lambda x: bay.tick(x, b"", Reading()),
                 lambda x: bay.tick(b"", x, Reading()),
                 lambda x: bay.tick_all(x, [], []),
@@ -211,6 +212,12 @@ class Library(unittest.TestCase):
         with self.assertRaises(Refused) as caught:
             call(*arguments, **named)
         self.assertEqual((caught.exception.refusal, caught.exception.place), (refusal, place))
+
+    def depths_met(self, table):
+        """For each state the depth of the first entry of the whole shift's list that it meets, or None where it meets none."""
+        entries = self.bay.plan_shift(table).entries
+        states = range(1 << self.bay.read_table(table).facts)
+        return [next((e.depth for e in entries if not e.condition & ~held and not e.absent & held), None) for held in states]
 
 
 class Calls(Library):
@@ -333,6 +340,50 @@ class Calls(Library):
         self.refused(Refusal.BAD_TREE, 110, recover, self.table, tree[:110], most_entries=0)
         self.refused(Refusal.BAD_TREE, 0, recover, self.table, bytes(65536))
         self.refused(Refusal.TABLE_CUT, 146, recover, self.table[:146], tree[:110])
+
+    def test_distances(self):
+        distances = self.bay.distances(self.table)
+        self.assertEqual(distances, [None, 4, 4, 3, None, 3, 2, 2, None, 2, 3, 2, 1, 1, 1, 1] + [0] * 16)
+        self.assertEqual(distances, self.depths_met(self.table))
+        self.assertEqual(self.bay.distances(bytearray(self.table)), distances)
+        # As many as the jobs of a plan from there.
+        for held, distance in enumerate(distances):
+            if distance is None:
+                self.refused(Refusal.NO_WAY, 9, self.bay.plan, self.table, Reading(held))
+            else:
+                self.assertEqual(self.bay.plan(self.table, Reading(held)).way_jobs, distance)
+        # Without jobs, and with a goal that every state holds.
+        self.assertEqual(self.bay.distances(self.bay.write_table(2, [], 0x02)), [None, None, 0, 0])
+        self.assertEqual(self.bay.distances(self.bay.write_table(1, [], 0x00)), [0, 0])
+
+    def test_most_distances(self):
+        # A fact for the one before it, up to the last.
+        jobs = [Job(needs=1 << fact, adds=2 << fact, deletes=1 << fact, seconds=60) for fact in range(14)]
+        table = self.bay.write_table(module.MAX_MEASURED_FACTS, jobs, 0x4000)
+        distances = self.bay.distances(table)
+        self.assertEqual((len(distances), distances[:5], distances[-1]), (module.MAX_STATES, [None, 14, 13, 13, 12], 0))
+        self.assertEqual(distances, self.depths_met(table))
+        # Each fact with all that are before it: as many jobs as facts are absent, also where the whole shift's list is too long.
+        jobs = [Job(needs=(1 << fact) - 1, adds=1 << fact, deletes=0, seconds=60) for fact in range(15)]
+        table = self.bay.write_table(module.MAX_MEASURED_FACTS, jobs, 0x7FFF)
+        self.refused(Refusal.LIST_FULL, 4096, self.bay.plan_shift, table)
+        self.assertEqual(self.bay.distances(table), [15 - bin(held).count("1") for held in range(module.MAX_STATES)])
+
+    def test_refused_distances(self):
+        distances = self.bay.distances
+        for facts in (16, 17, 32, 63, 64):
+            table = self.bay.write_table(facts, JOBS, 0x10)
+            self.refused(Refusal.TOO_MANY_FACTS, 0, distances, table)
+            self.refused(Refusal.TABLE_CUT, 146, distances, table[:146])
+        self.refused(Refusal.TABLE_CUT, 146, distances, self.table[:146])
+        self.refused(Refusal.TABLE_CUT, 0, distances, b"")
+        self.refused(Refusal.BYTES_AFTER_TABLE, 147, distances, self.table + b"?")
+        self.refused(Refusal.FACT_COUNT_OUT_OF_RANGE, 0, distances, b"\x10\x00" + self.table[2:])
+        # The method lends no row of another length, and so this goes past it.
+        for length in (0, 16, 31, 33, 64):
+            row = module._row(c_uint16, [7] * length)
+            self.refused(Refusal.BAD_ROW_LENGTH, 0, self.bay._call, "bay_measure_distances", 2, *module._bytes("table", self.table), *row)
+            self.assertEqual(row[0][:length], [7] * length)
 
     def test_searches(self):
         listed = [0x03, 0x01, 0x04, 0x01, 0x0C]
@@ -458,6 +509,13 @@ class Pairs(Library):
             for most in (0, 8, 4096):
                 self.refused(Refusal.OTHER_ORIGIN, 0, self.bay.recover_list, self.pairs, tree, most_entries=most)
             self.refused(Refusal.BAD_TREE, len(tree) - 1, self.bay.recover_list, self.pairs, tree[:-1])
+
+    def test_pair_distances(self):
+        distances = self.bay.distances(self.pairs)
+        self.assertEqual(distances, [4, 4, 3, 2, 2, 3, 1, 1] + [0] * 8)
+        self.assertEqual(distances, self.depths_met(self.pairs))
+        self.refused(Refusal.TABLE_CUT, 162, self.bay.distances, self.pairs[:162])
+        self.refused(Refusal.TOO_MANY_FACTS, 0, self.bay.distances, self.bay.write_table(16, PAIR_JOBS, 0x08))
 
     def test_pair_batches(self):
         entries = self.bay.plan(self.pairs, Reading(0x01)).entries
