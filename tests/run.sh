@@ -167,7 +167,7 @@ fi
 
 # ---- the examples in C and Python
 
-for program in plan shift team recover stack; do
+for program in plan shift team recover distances stack; do
     if $compiler -std=c99 -Wall -Wextra -Werror -O1 -Iinclude examples/c/$program.c "$archive" -o "$work/$program"; then
         ok "examples/c/$program.c is compiled"
     else
@@ -200,6 +200,12 @@ done
 same "examples/c/recover on trailer_one_fact_less" examples/c/expected_recover_trailer_one_fact_less.txt "$work/printed"
 "$work/recover" examples/trailer/bay.tab examples/truck_two_axles/plan.tree >"$work/printed" 2>&1
 same "examples/c/recover with another table" examples/c/expected_recover_another_table.txt "$work/printed"
+"$work/distances" examples/trailer/bay.tab >"$work/printed" 2>&1
+same "examples/c/distances on trailer" examples/c/expected_distances.txt "$work/printed"
+for folder in trailer_one_fact_less damaged_table; do
+    "$work/distances" examples/$folder/bay.tab >"$work/printed" 2>&1
+    same "examples/c/distances on $folder" examples/c/expected_distances_$folder.txt "$work/printed"
+done
 (ulimit -s 256 && "$work/stack") >"$work/printed" 2>&1
 same "examples/c/stack on a stack of 256 KiB" examples/c/expected_stack.txt "$work/printed"
 

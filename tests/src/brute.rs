@@ -149,6 +149,31 @@ pub fn check_cover(table: &Table, list: &[Entry], distance: &[Option<usize>]) {
     }
 }
 
+/// Document 02, W13: "for each state the fewest jobs to the goal, or 65,535 for none".
+pub fn check_distances(distance: &[Option<usize>], row: &[u16]) {
+    assert_eq!(row.len(), distance.len(), "the row's length");
+    for (state, (jobs, fewest)) in row.iter().zip(distance).enumerate() {
+        let told = (*jobs != NO_DISTANCE).then_some(usize::from(*jobs));
+        assert_eq!(told, *fewest, "the fewest jobs from {state:x}");
+    }
+}
+
+/// Document 02, W13, on the list of a plan for the whole shift: "the two must agree: equal to the depth of the first entry met, and 65,535 exactly where none
+/// is met".
+pub fn check_depths(table: &Table, list: &[Entry], row: &[u16]) {
+    assert_eq!(row.len(), 1 << table.facts, "the row's length");
+    for state in states(table) {
+        let jobs = row[state as usize];
+        match first_met(list, state) {
+            Some(first) => {
+                assert_ne!(jobs, NO_DISTANCE, "{state:x} meets entry {first}");
+                assert_eq!(jobs, list[first].depth, "the depth of entry {first}, the first that {state:x} meets");
+            }
+            None => assert_eq!(jobs, NO_DISTANCE, "{state:x} meets no entry"),
+        }
+    }
+}
+
 /// Document 02, W2: "each entry must be the first one met in at least one state"; of tables without 0x21 (W10).
 pub fn check_no_dead_lines(table: &Table, list: &[Entry]) {
     let mut first_in_some = vec![false; list.len()];

@@ -5,6 +5,7 @@
 //! the comments are from document 01, or from document 02 where they name it.
 
 use std::cmp::Ordering;
+use std::collections::VecDeque;
 
 // ---- commands
 
@@ -51,6 +52,10 @@ pub const MOST_DEPTH: usize = 16;
 pub const MOST_TREE_BYTES: usize = 65_535;
 /// "with no job (stored as 255)"
 pub const NO_JOB: u8 = 255;
+/// "for tables of at most 15 facts" (document 02, W13)
+pub const MOST_MEASURED_FACTS: u32 = 15;
+/// "or 65,535 for none" (document 02, W13)
+pub const NO_DISTANCE: u16 = 65_535;
 
 fn width_of(command: u8) -> usize {
     let row = WIDTHS.iter().find(|(byte, _)| *byte == command);
@@ -988,6 +993,53 @@ pub fn recover(table: &[u8], tree: &[u8], mut lists: Lists) -> Result<usize, Ref
     }
     lists.store(&list);
     Ok(list.len())
+}
+
+// ---- the distances of all states (document 02, W13)
+
+/// "for each state the fewest jobs to the goal, or 65,535 for none". The library works them out forward. Here the search goes the other way, so that the
+/// two have little in common: breadth-first from the states that hold the goal, along the jobs in reverse.
+fn fewest_jobs(table: &Table) -> Vec<u16> {
+    let states = 1 << table.facts;
+    // For each state, those from which one job leads to it.
+    let mut before = vec![Vec::new(); states];
+    for state in 0..states {
+        for job in &table.jobs {
+            if job.is_applicable(state as u64, 0) {
+                before[job.finish(state as u64) as usize].push(state);
+            }
+        }
+    }
+    let mut fewest = vec![NO_DISTANCE; states];
+    let mut queue = VecDeque::new();
+    for state in 0..states {
+        if is_part(table.goal, state as u64) {
+            fewest[state] = 0;
+            queue.push_back(state);
+        }
+    }
+    while let Some(state) = queue.pop_front() {
+        for &earlier in &before[state] {
+            if fewest[earlier] == NO_DISTANCE {
+                fewest[earlier] = fewest[state] + 1;
+                queue.push_back(earlier);
+            }
+        }
+    }
+    fewest
+}
+
+/// "A lent row of 16-bit numbers, indexed by the held mask": the table's stops, then 25, then 26. Gives the number of states.
+pub fn distances(table: &[u8], row: &mut [u16]) -> Result<usize, Refusal> {
+    let table = read_table(table)?;
+    if table.facts > MOST_MEASURED_FACTS {
+        return refuse(25, 0);
+    }
+    if row.len() != 1 << table.facts {
+        return refuse(26, 0);
+    }
+    row.copy_from_slice(&fewest_jobs(&table));
+    Ok(row.len())
 }
 
 // ---- the tick of a whole yard (document 02, W4)

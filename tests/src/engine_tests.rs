@@ -778,6 +778,126 @@ fn longest_list_of_a_tree() {
     assert_eq!(recovered(&table.bytes(), &tree, [4_096, 4_096, 4_095, 4_096]), Err((10, 0)));
 }
 
+/// The distances of all states, put into a row of so many numbers, or number and place. A refused call leaves the row as it was.
+fn measured(table: &[u8], length: usize) -> Result<Vec<u16>, (u64, usize)> {
+    let before = Lent::filled([0, 0, 0, 0, length, 0], 7).depths;
+    let mut row = before.clone();
+    match distances(table, &mut row) {
+        Ok(states) => {
+            assert_eq!(states, length);
+            Ok(row)
+        }
+        Err(refusal) => {
+            assert_eq!(row, before);
+            Err((refusal.number, refusal.place))
+        }
+    }
+}
+
+/// Document 02, W13, by hand; and both agree with the whole shift's list.
+#[test]
+fn distances_of_both_trailers() {
+    assert_eq!(measured(&trailer::table(), 32), Ok(trailer::DISTANCES.to_vec()));
+    assert_eq!(measured(&one_fact_less::table(), 16), Ok(one_fact_less::DISTANCES.to_vec()));
+    let table = read_table(&trailer::table()).unwrap();
+    brute::check_depths(&table, &trailer::whole_list(), &trailer::DISTANCES);
+    let table = read_table(&one_fact_less::table()).unwrap();
+    let whole = expand(&table, None, MOST_PAIR_ENTRIES).0;
+    brute::check_depths(&table, &whole, &one_fact_less::DISTANCES);
+}
+
+/// Small tables against brute force over all states, and against the whole shift's list.
+#[test]
+fn distances_by_brute_force() {
+    for kind in [Jobs::Plain, Jobs::Paired] {
+        for index in 0..400 {
+            let random = &mut Random::for_case(1, "distances", index);
+            let table = match index % 4 {
+                0 => make::small_table(random, index / 4, kind),
+                1 => make::table(random, 9, 12, kind),
+                _ => make::busy_table(random, 1 + (index % 9) as u32, kind),
+            };
+            let row = measured(&table.bytes(), 1 << table.facts).unwrap();
+            brute::check_distances(&brute::distances(&table), &row);
+            let (whole, ending) = expand(&table, None, table.most_entries());
+            if ending == Ending::Exhausted {
+                brute::check_depths(&table, &whole, &row);
+            }
+        }
+    }
+}
+
+/// The longest way that there is leads through all states of 15 facts, up or down: 32,767 jobs.
+#[test]
+fn distances_of_the_longest_way() {
+    let order: Vec<u32> = (0..15).collect();
+    let up: Vec<u16> = (0..32_768).map(|state| 32_767 - state as u16).collect();
+    assert_eq!(measured(&make::ring_table(&order, 0).bytes(), 32_768), Ok(up));
+    let down: Vec<u16> = (0..32_768).map(|state| (state as u16 + 1) % 32_768).collect();
+    assert_eq!(measured(&make::ring_table(&order, 0x7fff).bytes(), 32_768), Ok(down));
+}
+
+/// "More than 15 facts is refused as 25, a row of another length than the states as 26, in that order after 7", and after 19 and 22 as well.
+#[test]
+fn stops_of_distances_come_in_order() {
+    let table = trailer::table();
+    for length in [0, 1, 5, 16, 31, 33, 64, 147, 32_768, 65_536 + 32] {
+        assert_eq!(measured(&table, length), Err((26, 0)));
+    }
+    // 15 facts are taken, and ten that no job looks at change nothing. 16 are not taken, also with a row that has a number for each state.
+    let few = table_bytes(15, &trailer::jobs(), 0x10);
+    let row = measured(&few, 32_768).unwrap();
+    assert!(row.chunks(32).all(|part| part == trailer::DISTANCES));
+    for length in [0, 32_767, 32_769, 65_536] {
+        assert_eq!(measured(&few, length), Err((26, 0)));
+    }
+    for facts in [16, 17, 31, 32, 33, 48, 63, 64] {
+        let many = table_bytes(facts, &trailer::jobs(), 0x10);
+        for length in [0, 1, 32, 32_768, 65_536] {
+            assert_eq!(measured(&many, length), Err((25, 0)));
+        }
+    }
+    // The table before both.
+    let long = Job { seconds: 5_401, ..trailer::jobs()[2] };
+    let both_ways = Job::paired(0x01, 0x01, 0x02, 0x00, 60);
+    let overlap = Job::plain(0x01, 0x01, 0x00, 60);
+    for facts in [5, 15, 16, 64] {
+        let sound = table_bytes(facts, &trailer::jobs(), 0x10);
+        for length in [0, 32, 32_768] {
+            assert_eq!(measured(&sound[..146], length), Err((1, 146)));
+            assert_eq!(measured(&[&sound[..146], &[GOAL]].concat(), length), Err((2, 146)));
+            assert_eq!(measured(&[&sound[..], &[END_OF_TABLE]].concat(), length), Err((7, 147)));
+            assert_eq!(measured(&table_bytes(facts, &[trailer::jobs()[2]; 129], 0x10), length), Err((4, 3_458)));
+            for (job, number) in [(overlap, 6), (long, 19), (both_ways, 22)] {
+                assert_eq!(measured(&table_bytes(facts, &[job], 0x10), length), Err((number, 2)));
+            }
+        }
+    }
+    for length in [0, 32, 32_768] {
+        assert_eq!(measured(&table_bytes(0, &[], 0), length), Err((3, 0)));
+        assert_eq!(measured(&table_bytes(65, &[], 0), length), Err((3, 0)));
+        assert_eq!(measured(&table_bytes(16, &[], 0x1_0000), length), Err((5, 2)));
+        assert_eq!(measured(&table_bytes(4, &[], 0x10), length), Err((5, 2)));
+    }
+}
+
+/// A state at the goal has 0, also where a job would lead on; a job that changes nothing is no way; and a detour counts where there is no other.
+#[test]
+fn distances_that_are_easy_to_mix_up() {
+    let row = |jobs: &[Job], facts: u8, goal: u64| measured(&table_bytes(facts, jobs, goal), 1 << facts).unwrap();
+    assert_eq!(row(&[], 1, 0), [0, 0]);
+    assert_eq!(row(&[], 1, 1), [NO_DISTANCE, 0]);
+    // It deletes the goal.
+    assert_eq!(row(&[Job::plain(1, 0, 1, 1)], 1, 1), [NO_DISTANCE, 0]);
+    // It changes nothing, from any state.
+    assert_eq!(row(&[Job::plain(0, 0, 0, 1)], 1, 1), [NO_DISTANCE, 0]);
+    // Fact 1 is brought about only without fact 0, which is part of the goal.
+    let jobs = [Job::plain(0, 1, 0, 1), Job::paired(0, 1, 2, 0, 1), Job::plain(1, 0, 1, 1)];
+    assert_eq!(row(&jobs, 2, 3), [2, 3, 1, 0]);
+    // Without the job that takes it away, state 1 has no way.
+    assert_eq!(row(&jobs[..2], 2, 3), [2, NO_DISTANCE, 1, 0]);
+}
+
 /// The answers and the count of a batch with room for so many, or number and place.
 fn yard_into(table: &[u8], rows: &BatchRows, room: usize) -> Result<(Vec<Status>, usize), (u64, usize)> {
     match tick_all(table, rows.batch(), room) {

@@ -112,6 +112,13 @@ extern "C" {
         depths_len: usize,
         answer: *mut u64,
     ) -> u64;
+    fn bay_measure_distances(
+        table: *const u8,
+        table_len: usize,
+        row: *mut u16,
+        row_len: usize,
+        answer: *mut u64,
+    ) -> u64;
     fn bay_tick(
         table: *const u8,
         table_len: usize,
@@ -347,6 +354,12 @@ pub fn recover_list(table: &[u8], tree: &[u8], lists: Lists) -> [u64; 2] {
             lists.depths.len(),
             answer,
         )
+    })
+}
+
+pub fn measure_distances(table: &[u8], row: &mut [u16]) -> [u64; 2] {
+    answer_of(|answer| unsafe {
+        bay_measure_distances(table.as_ptr(), table.len(), row.as_mut_ptr(), row.len(), answer)
     })
 }
 

@@ -1,7 +1,13 @@
-//! docs/FORMATS.md: the bytes that it lists are those of both trailers, what it prints is what `bayplan` prints, and no number is left out.
+//! docs/FORMATS.md: the bytes that it lists are those of both trailers, what it prints is what `bayplan` prints, its distances are the engine's, and no
+//! number is left out. And the distances that the example in C is to print are the engine's.
 
-use crate::engine::{expand, fitter_tree_bytes, read_table, tree_bytes, Fitter, MOST_ENTRIES};
-use crate::header_tests::{file, refusals};
+use std::fs;
+
+use crate::engine::{
+    distances, expand, fitter_tree_bytes, read_table, tree_bytes, Fitter, MOST_ENTRIES, MOST_MEASURED_FACTS,
+    NO_DISTANCE,
+};
+use crate::header_tests::{file, path, refusals};
 use crate::trailer::{self, one_fact_less};
 
 /// The lines under a heading, up to the next one.
@@ -54,6 +60,34 @@ fn printed_text_is_bayplans() {
     for text in [trailer::PRINTED, one_fact_less::PRINTED, &file("examples/damaged_table/expected.txt")] {
         assert!(page.contains(&format!("```\n{text}```\n")), "there is no block of\n{text}");
     }
+}
+
+/// What examples/c/distances.c prints of a table: a line for each state with its held mask and its distance, or `-` for none.
+fn printed_distances(table: &[u8]) -> Vec<String> {
+    let states = read_table(table).map_or(0, |table| 1 << table.facts.min(MOST_MEASURED_FACTS));
+    let mut row = vec![0; states];
+    match distances(table, &mut row) {
+        Ok(_) => {
+            let told = |jobs: u16| if jobs == NO_DISTANCE { "-".to_string() } else { jobs.to_string() };
+            row.into_iter().enumerate().map(|(held, jobs)| format!("{held:016x} {}\n", told(jobs))).collect()
+        }
+        Err(refusal) => vec![format!("refused {} {}\n", refusal.number, refusal.place)],
+    }
+}
+
+#[test]
+fn distances_are_the_engines() {
+    for (folder, name) in [
+        ("trailer", "expected_distances"),
+        ("trailer_one_fact_less", "expected_distances_trailer_one_fact_less"),
+        ("damaged_table", "expected_distances_damaged_table"),
+    ] {
+        let table = fs::read(path(&format!("examples/{folder}/bay.tab"))).expect("a table");
+        assert_eq!(file(&format!("examples/c/{name}.txt")), printed_distances(&table).concat());
+    }
+    // The page has the states short of the goal and the first that holds it.
+    let text = printed_distances(&trailer::table())[..17].concat();
+    assert!(file("docs/FORMATS.md").contains(&format!("```\n{text}```\n")), "there is no block of\n{text}");
 }
 
 #[test]

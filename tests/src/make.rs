@@ -462,6 +462,26 @@ pub fn pair_counter_table(bits: usize, last: u64, seconds: u16) -> Table {
     Table { facts: bits as u32 + 1, jobs, goal: done }
 }
 
+/// A counter with one fact for each bit, the least bit's first in `order`. A bit is set where its fact is held, and for a flipped fact where it is absent.
+/// Job i sets bit i where it is the lowest clear one and clears those below it; the last job clears all bits where all are set. So one way leads through
+/// all states, round and round, and the goal is the state that holds all facts.
+pub fn ring_table(order: &[u32], flipped: u64) -> Table {
+    // What is set and is to be cleared, and what is clear and is to be set.
+    let job = |set: u64, clear: u64| {
+        let held = (set & !flipped) | (clear & flipped);
+        let absent = (set & flipped) | (clear & !flipped);
+        Job::paired(held, absent, absent, held, 60)
+    };
+    let mut jobs = Vec::new();
+    let mut lower = 0;
+    for fact in order {
+        jobs.push(job(lower, 1 << fact));
+        lower |= 1 << fact;
+    }
+    jobs.push(job(lower, 0));
+    Table { facts: order.len() as u32, jobs, goal: lower }
+}
+
 /// Every state that has the held facts and, of the unread ones, any.
 pub fn fillings(held: u64, unread: u64) -> Vec<u64> {
     let mut all = Vec::new();

@@ -1,6 +1,6 @@
 //! Document 01's trailer on the hitch, and the same with one fact less.
 
-use crate::engine::{table_bytes, Condition, Entry, Job, NO_JOB};
+use crate::engine::{table_bytes, Condition, Entry, Job, NO_DISTANCE, NO_JOB};
 
 pub const FACTS: u8 = 5;
 pub const GOAL: u64 = 0x10;
@@ -58,6 +58,20 @@ pub fn whole_list() -> Vec<Entry> {
 /// may seal.
 pub const LICENCES: [u8; 5] = [2, 2, 1, 1, 3];
 
+/// No jobs lead to the goal.
+const NONE: u16 = NO_DISTANCE;
+
+/// The fewest jobs from each state, by its held mask (document 02, W13). With the trailer neither off nor on, nothing but sealing can be done; and whatever
+/// else is held, a sealed one is at the goal.
+#[rustfmt::skip]
+pub const DISTANCES: [u16; 32] = [
+    NONE, 4, 4, 3, // 00: nothing known
+    NONE, 3, 2, 2, // 04: unloaded known
+    NONE, 2, 3, 2, // 08: loaded known
+    1, 1, 1, 1, // 0c: both known
+    0, 0, 0, 0, 0, 0, 0, 0, 0, 0, 0, 0, 0, 0, 0, 0, // 10: sealed
+];
+
 /// The trailer without a fact for "trailer off": "Some jobs need the trailer to be off, and a second fact for that is clumsy" (document 02, W10).
 /// 0 trailer on, 1 unloaded known, 2 loaded known, 3 sealed.
 pub mod one_fact_less {
@@ -79,6 +93,16 @@ pub mod one_fact_less {
     pub fn table() -> Vec<u8> {
         table_bytes(FACTS, &jobs(), GOAL)
     }
+
+    /// The fewest jobs from each state, by its held mask (document 02, W13): with the trailer off and on in turn. Every state has a way.
+    #[rustfmt::skip]
+    pub const DISTANCES: [u16; 16] = [
+        4, 4, // 00: nothing known
+        3, 2, // 02: unloaded known
+        2, 3, // 04: loaded known
+        1, 1, // 06: both known
+        0, 0, 0, 0, 0, 0, 0, 0, // 08: sealed
+    ];
 
     /// What `bayplan` prints for held 01.
     pub const PRINTED: &str = "plan 7 153

@@ -24,7 +24,7 @@ fn reached(function: &'static str, number: u64) {
 }
 
 /// The numbers that each function can give.
-const NUMBERS: [(&str, &[u64]); 13] = [
+const NUMBERS: [(&str, &[u64]); 14] = [
     ("read_table", &[0, 1, 2, 3, 4, 5, 6, 7, 19, 22]),
     ("read_job", &[0, 1, 2, 3, 4, 5, 6, 7, 16, 19, 22]),
     ("write_table", &[0, 3, 4, 5, 6, 19, 22, ffi::TOO_SHORT, ffi::UNEVEN, ffi::UNWRITABLE]),
@@ -33,6 +33,7 @@ const NUMBERS: [(&str, &[u64]); 13] = [
     ("plan_shift", &[0, 1, 2, 3, 4, 5, 6, 7, 10, 12, 19, 22]),
     ("plan_team", &[0, 1, 2, 3, 4, 5, 6, 7, 8, 9, 10, 11, 12, 19, 22, 24]),
     ("recover_list", &[0, 1, 2, 3, 4, 5, 6, 7, 10, 13, 14, 15, 19, 20, 22]),
+    ("measure_distances", &[0, 1, 2, 3, 4, 5, 6, 7, 19, 22, 25, 26]),
     ("tick", &[0, 1, 2, 3, 4, 5, 6, 7, 8, 13, 14, 15, 19, 22]),
     ("tick_all", &[0, 1, 2, 3, 4, 5, 6, 7, 8, 13, 15, 19, 22]),
     ("open", &[0, 1, 2, 3, 4, 5, 6, 7, 8, 19, 22]),
@@ -107,7 +108,7 @@ fn no_difference<const N: usize>(differences: [Option<String>; N], case: impl Fn
     }
 }
 
-/// The slices that a plan, or a recovery of its list, is lent.
+/// The slices that a plan, a recovery of its list, or a count of distances is lent.
 trait Slices: Clone {
     fn lengths(&self) -> Vec<usize>;
 
@@ -143,6 +144,17 @@ impl Slices for TeamLent {
         Lent::difference(&library.lists, &engine.lists)
             .or_else(|| first_difference("first", &library.trees[0], &engine.trees[0]))
             .or_else(|| first_difference("second", &library.trees[1], &engine.trees[1]))
+    }
+}
+
+/// A row of distances.
+impl Slices for Vec<u16> {
+    fn lengths(&self) -> Vec<usize> {
+        vec![self.len()]
+    }
+
+    fn difference(library: &Vec<u16>, engine: &Vec<u16>) -> Option<String> {
+        first_difference("row", library, engine)
     }
 }
 
@@ -198,7 +210,7 @@ pub fn write_table(
     (result, out)
 }
 
-/// One plan, or one recovery of its list, into the slices that it is lent.
+/// One plan, one recovery of its list, or one count of distances, into the slices that it is lent.
 fn into_lent<L: Slices, T, const N: usize>(
     function: &'static str,
     table: &[u8],
@@ -303,6 +315,23 @@ pub fn recover_list(table: &[u8], tree: &[u8], lengths: ListLengths, pattern: u6
     );
     same(&copy, &bytes, operands);
     done
+}
+
+/// The distances of all states, into a row that holds these numbers before, with more elements past it; gives the row alone.
+pub fn measure_distances(table: &[u8], row: &[u16], pattern: u64) -> (Result<usize, Refusal>, Vec<u16>) {
+    let states = row.len();
+    let spare = Lent::filled([0, 0, 0, 0, SPARE, 0], pattern).depths;
+    let (result, mut lent) = into_lent(
+        "measure_distances",
+        table,
+        [row, &spare].concat(),
+        || format!("over {}", shown_row(row)),
+        |table, lent| engine::distances(table, &mut lent[..states]),
+        |states| [0, *states as u64],
+        |table, lent| ffi::measure_distances(table, &mut lent[..states]),
+    );
+    lent.truncate(states);
+    (result, lent)
 }
 
 pub fn status_words(status: Status) -> (u64, u64) {

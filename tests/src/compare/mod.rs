@@ -3,6 +3,7 @@
 pub mod checks;
 pub mod groups_batches;
 pub mod groups_cards;
+pub mod groups_distances;
 pub mod groups_plans;
 pub mod groups_recovery;
 pub mod groups_searches;
@@ -47,6 +48,7 @@ pub fn groups() -> Vec<Group> {
         groups_batches::groups(),
         groups_teams::groups(),
         groups_recovery::groups(),
+        groups_distances::groups(),
         groups_cards::groups(),
     ];
     all.into_iter().flatten().flatten().collect()
