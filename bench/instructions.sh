@@ -15,11 +15,11 @@ count() {
         sed -n 's/.*Collected : \([0-9]*\).*/\1/p'
 }
 
-printf '%-20s %-11s %16s %16s\n' case side instructions 'library / side'
+printf '%-24s %-13s %16s %16s\n' case side instructions 'library / side'
 "$program" --list | while read -r case side; do
-    # A plan or a batch is long enough that what the first call alone does is nothing beside it.
+    # A plan, a batch or a row of distances is long enough that what the first call alone does is nothing beside it.
     case $case in
-    plan_* | batch_*) before=0 ;;
+    plan_* | batch_* | distances_*) before=0 ;;
     *) before=1 ;;
     esac
     fewer=$(count "$case" "$side" $before)
@@ -28,5 +28,5 @@ printf '%-20s %-11s %16s %16s\n' case side instructions 'library / side'
     if [ "$side" = library ]; then
         library=$instructions
     fi
-    printf '%-20s %-11s %16s %16s\n' "$case" "$side" "$instructions" "$(awk "BEGIN { printf \"%.2f\", $library / $instructions }")"
+    printf '%-24s %-13s %16s %16s\n' "$case" "$side" "$instructions" "$(awk "BEGIN { printf \"%.2f\", $library / $instructions }")"
 done

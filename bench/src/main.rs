@@ -9,11 +9,14 @@
 mod ffi;
 mod tight;
 
+use std::cell::OnceCell;
 use std::hint::black_box;
+use std::rc::Rc;
 use std::time::Instant;
 
 use bay_tests::engine::{self, Job, Lent, Status, MOST_ENTRIES, MOST_PAIR_ENTRIES};
 use bay_tests::make::{self, BatchRows, Jobs};
+use bay_tests::random::Random;
 use bay_tests::trailer;
 
 /// One way to do a case. It gives a number made of its answer, by which the sides are compared.
@@ -186,8 +189,73 @@ fn batch_case(table: engine::Table, vehicles: Vec<(u64, u64)>) -> Vec<Side> {
     ]
 }
 
+/// Fifteen facts and 128 jobs drawn by chance, each of which adds one fact. Where they are paired, every other one needs facts absent. The seed is one that
+/// gives a greatest distance of 40 with either kind.
+fn chance_table(kind: Jobs) -> Vec<u8> {
+    const FACTS: u8 = 15;
+    let mut random = Random::new(4_562);
+    // So many facts at most: one may be drawn twice.
+    let mut drawn = |count: usize| (0..count).fold(0, |mask: u64, _| mask | 1 << random.below(usize::from(FACTS)));
+    let job = |i: usize| {
+        let is_paired = kind == Jobs::Paired && i % 2 == 1;
+        let adds = drawn(1);
+        let absent = drawn(if is_paired { 2 } else { 0 });
+        let needs = drawn(if is_paired { 5 } else { 7 }) & !(adds | absent);
+        let deletes = drawn(3) & !adds;
+        if is_paired {
+            Job::paired(needs, absent, adds, deletes, 60)
+        } else {
+            Job::plain(needs, adds, deletes, 60)
+        }
+    };
+    let jobs: Vec<Job> = (0..128).map(job).collect();
+    engine::table_bytes(FACTS, &jobs, drawn(8))
+}
+
+/// A counter that goes down to 0, after which a last job adds the goal: one long chain. The sweeps go down as well, so that each makes one state final.
+fn chain_table(facts: usize) -> Vec<u8> {
+    let done = 1u64 << (facts - 1);
+    let decrement = |i: usize| {
+        let bit = 1u64 << i;
+        let lower = bit - 1;
+        Job::paired(bit, lower | done, lower, bit, 60)
+    };
+    let mut jobs: Vec<Job> = (0..facts - 1).map(decrement).collect();
+    jobs.push(Job::paired(0, done - 1, done, 0, 60));
+    engine::table_bytes(facts as u8, &jobs, done)
+}
+
+/// The fewest jobs from every state to the goal.
+fn distances_case(table: Vec<u8>) -> Vec<Side> {
+    let states = 1usize << table[1];
+    let (t1, t2) = (table.clone(), table.clone());
+    let mut r1 = vec![0u16; states];
+    let (mut r2, mut r3) = (r1.clone(), r1.clone());
+    // The row of the first call, which those of all further ones are compared with.
+    let first: Rc<OnceCell<Vec<u16>>> = Rc::default();
+    let agreed = move |row: &[u16]| {
+        assert!(first.get_or_init(|| row.to_vec()) == row, "the sides give different rows");
+        row.len() as u64
+    };
+    let (a1, a2) = (agreed.clone(), agreed.clone());
+    vec![
+        side("library", move || {
+            assert_eq!(ffi::measure_distances(&t1, &mut r1), [0, states as u64]);
+            a1(&r1)
+        }),
+        side("rust", move || {
+            assert_eq!(tight::distances(&t2, &mut r2), Ok(states));
+            a2(&r2)
+        }),
+        side("rust_backward", move || {
+            assert_eq!(tight::distances_backward(&table, &mut r3), Ok(states));
+            agreed(&r3)
+        }),
+    ]
+}
+
 /// The cases and what builds them: only what is asked for is built.
-const CASES: [(&str, fn() -> Vec<Side>); 15] = [
+const CASES: [(&str, fn() -> Vec<Side>); 20] = [
     ("plan_12_jobs", || plan_case(long_table(12))),
     ("plan_72_jobs", || plan_case(long_table(72))),
     ("plan_128_jobs", || plan_case(long_table(128))),
@@ -209,6 +277,11 @@ const CASES: [(&str, fn() -> Vec<Side>); 15] = [
     ("table_5_jobs", || table_case(trailer::table())),
     ("table_128_jobs", || table_case(long_table(128).0)),
     ("table_128_pair_jobs", || table_case(long_pair_table(128).0)),
+    ("distances_15_facts", || distances_case(chance_table(Jobs::Plain))),
+    ("distances_15_facts_pairs", || distances_case(chance_table(Jobs::Paired))),
+    ("distances_chain_10", || distances_case(chain_table(10))),
+    ("distances_chain_11", || distances_case(chain_table(11))),
+    ("distances_chain", || distances_case(chain_table(12))),
 ];
 
 /// Nanoseconds of one call: the least of several rounds, each long enough to be measured.
@@ -233,7 +306,7 @@ fn shown(nanoseconds: f64) -> String {
 fn measure_all() {
     const ROUNDS: usize = 7;
     const ROUND_NANOSECONDS: f64 = 4e7;
-    println!("{:<20} {:<11} {:>11} {:>16}", "case", "side", "time", "library / side");
+    println!("{:<24} {:<13} {:>11} {:>16}", "case", "side", "time", "library / side");
     for (name, make) in CASES {
         let mut sides = make();
         let answers: Vec<u64> = sides.iter_mut().map(|side| (side.call)()).collect();
@@ -250,7 +323,7 @@ fn measure_all() {
             }
         }
         for (side, time) in sides.iter().zip(&least) {
-            println!("{:<20} {:<11} {:>11} {:>16.2}", name, side.name, shown(*time), least[0] / time);
+            println!("{:<24} {:<13} {:>11} {:>16.2}", name, side.name, shown(*time), least[0] / time);
         }
     }
 }

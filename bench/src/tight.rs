@@ -1,4 +1,5 @@
-//! Counterparts in Rust that are written for speed: no allocation, masks read once, the same loops as the paper's steps.
+//! Counterparts in Rust that are written for speed: no allocation, masks read once, the same loops as the paper's steps. `distances_backward` alone
+//! works another way.
 
 use bay_tests::engine::{minutes, Batch, Lent, Planned, Refusal, Status};
 
@@ -140,16 +141,11 @@ struct Jobs {
     seconds: [u16; 128],
 }
 
-/// Plans into the lent slices.
-pub fn plan(table: &[u8], held: u64, unread: u64, lent: &mut Lent) -> Result<Planned, Refusal> {
-    let header = read_table(table)?;
-    judge_reading(header.facts, held, unread)?;
-    if unread != 0 {
-        return refuse(9, 0);
-    }
+#[inline(always)]
+fn read_jobs(table: &[u8], count: usize) -> Jobs {
     let mut jobs = Jobs { needs: [0; 128], absent: [0; 128], adds: [0; 128], deletes: [0; 128], seconds: [0; 128] };
     let mut at = 2;
-    for i in 0..header.count {
+    for i in 0..count {
         let (job, width) = if table[at] == 0x21 {
             (job_operands::<PAIRED_JOB_WIDTH>(table, at), PAIRED_JOB_WIDTH)
         } else {
@@ -163,6 +159,17 @@ pub fn plan(table: &[u8], held: u64, unread: u64, lent: &mut Lent) -> Result<Pla
         jobs.seconds[i] = job.seconds;
         at += 1 + width;
     }
+    jobs
+}
+
+/// Plans into the lent slices.
+pub fn plan(table: &[u8], held: u64, unread: u64, lent: &mut Lent) -> Result<Planned, Refusal> {
+    let header = read_table(table)?;
+    judge_reading(header.facts, held, unread)?;
+    if unread != 0 {
+        return refuse(9, 0);
+    }
+    let jobs = read_jobs(table, header.count);
     // One text of the loops; a table without 0x21 has none of the work on second masks.
     if header.paired {
         plan_jobs::<true>(&header, &jobs, held, lent)
@@ -572,4 +579,115 @@ fn tick_list<const PAIRED: bool>(
         entry += 1;
     }
     Ok(entry)
+}
+
+/// The distance of a state from which no jobs lead to the goal.
+const NO_DISTANCE: u16 = 65_535;
+
+/// Stops 25 and 26 after those of the table.
+fn judge_row(header: &Header, row: &[u16]) -> Result<(), Refusal> {
+    if header.facts > 15 {
+        return refuse(25, 0);
+    }
+    if row.len() != 1 << header.facts {
+        return refuse(26, 0);
+    }
+    Ok(())
+}
+
+/// Puts the fewest jobs to the goal for each state, by sweeps over all states from the last one down, and gives how many states there are. After sweep
+/// n, from 0, every state that is at most n + 1 jobs from the goal is final.
+pub fn distances(table: &[u8], row: &mut [u16]) -> Result<usize, Refusal> {
+    let header = read_table(table)?;
+    judge_row(&header, row)?;
+    let jobs = read_jobs(table, header.count);
+    let (needs, absent) = (&jobs.needs[..header.count], &jobs.absent[..header.count]);
+    let (adds, deletes) = (&jobs.adds[..header.count], &jobs.deletes[..header.count]);
+    for (state, distance) in row.iter_mut().enumerate() {
+        *distance = if header.goal & !(state as u64) == 0 { 0 } else { NO_DISTANCE };
+    }
+    let mut sweep = 0;
+    let mut changed = true;
+    while changed {
+        changed = false;
+        for state in (0..row.len()).rev() {
+            let distance = row[state];
+            // It is final already.
+            if distance <= sweep + 1 {
+                continue;
+            }
+            let held = state as u64;
+            let mut nearest = NO_DISTANCE;
+            for job in 0..header.count {
+                if needs[job] & !held != 0 || absent[job] & held != 0 {
+                    continue;
+                }
+                let after = row[((held | adds[job]) & !deletes[job]) as usize];
+                if after < nearest {
+                    nearest = after;
+                    // No job leads nearer.
+                    if nearest <= sweep {
+                        break;
+                    }
+                }
+            }
+            if nearest < distance && nearest + 1 < distance {
+                row[state] = nearest + 1;
+                changed = true;
+            }
+        }
+        sweep += 1;
+    }
+    Ok(row.len())
+}
+
+/// The same breadth-first from the goal backward, with lists of predecessors and a queue in memory of its own.
+pub fn distances_backward(table: &[u8], row: &mut [u16]) -> Result<usize, Refusal> {
+    const NONE: u32 = u32::MAX;
+    let header = read_table(table)?;
+    judge_row(&header, row)?;
+    let jobs = read_jobs(table, header.count);
+    // A step is one job from one state. Each state has the newest step that leads to it, and each step the next older one that leads to the same state.
+    let mut newest = vec![NONE; row.len()];
+    let mut steps: Vec<(u16, u32)> = Vec::new();
+    for job in 0..header.count {
+        let (needs, adds, deletes) = (jobs.needs[job], jobs.adds[job], jobs.deletes[job]);
+        // The job is applicable with every part of the facts that it does not look at.
+        let open = !(needs | jobs.absent[job] | facts_beyond(header.facts));
+        let mut part = open;
+        loop {
+            let held = needs | part;
+            let after = &mut newest[((held | adds) & !deletes) as usize];
+            steps.push((held as u16, *after));
+            *after = steps.len() as u32 - 1;
+            if part == 0 {
+                break;
+            }
+            part = (part - 1) & open;
+        }
+    }
+    let mut queue = Vec::with_capacity(row.len());
+    for (state, distance) in row.iter_mut().enumerate() {
+        *distance = NO_DISTANCE;
+        if header.goal & !(state as u64) == 0 {
+            *distance = 0;
+            queue.push(state as u16);
+        }
+    }
+    let mut taken = 0;
+    while taken < queue.len() {
+        let state = usize::from(queue[taken]);
+        taken += 1;
+        let distance = row[state] + 1;
+        let mut step = newest[state];
+        while step != NONE {
+            let (before, older) = steps[step as usize];
+            if row[usize::from(before)] == NO_DISTANCE {
+                row[usize::from(before)] = distance;
+                queue.push(before);
+            }
+            step = older;
+        }
+    }
+    Ok(row.len())
 }
