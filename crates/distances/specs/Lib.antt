@@ -1,3 +1,4 @@
 pub mod Measure
 pub mod AgreeLaws
 pub mod MeasureLaws
+pub mod TogetherLaws

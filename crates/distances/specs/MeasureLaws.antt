@@ -124,6 +124,13 @@ module _ (facts size : ℕ) where
       by-facts true few false same e = absurd (not-both (sym e))
       by-facts false few q same e = absurd (not-both (sym e))
 
+-- a row of which the states are told has as many numbers
+pub measured-whole : (table : List ℕ) (t : Table) → readTable table ≡ accepted t → (size n : ℕ) → measured table size ≡ accepted n → size ≡ n
+measured-whole table t read size n e =
+    let told : accepted n ≡ checkedRow (t .facts) size = sym e ∙ rw read in
+    let (few, whole, states) = row-told (t .facts) size n told in
+    whole ∙ sym states
+
 -- ---- the answers
 
 module _ (table before : List ℕ) where
