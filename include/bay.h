@@ -485,7 +485,7 @@ static inline struct bay_recovered bay_list_recover(struct bay_table table, stru
  * Where bay_plan_shift succeeds for the same table, this number is the depth of the first entry that the state meets, and BAY_NO_DISTANCE
  * stands exactly where it meets none. No list is needed here.
  * answer: 0, the number of states. After the table's refusals come 25 with 0 for more facts, whatever the row, and 26 with 0 for a row of
- * another length. In each case the row is untouched.
+ * another length. A refused call leaves the row untouched.
  * What it costs: it sweeps over all states and jobs until nothing changes, at most as many times as the greatest distance plus 1, and most
  * often far fewer. A table of 15 facts and 128 jobs drawn by chance takes some 40 to 120 ms. But a long chain of jobs that count states
  * down can take many seconds: one through half of the states takes 30 to 50 ms with 12 facts and some 10 s with 15, and one through all

@@ -135,3 +135,19 @@ module _ (f : ℕ → ℕ) where
         | yes k ↦ omega (arith, sum-stands m n k (λ i a b. h i a (omega arith)), h n k (omega arith))
         | no k ↦ let same : m ≡ suc n = omega arith in ap (sum f) same
       ]
+
+-- sums of functions that are the same but at one index
+module _ (f g : ℕ → ℕ) where
+  sum-same : (n : ℕ) → ((j : ℕ) → j < n → f j ≡ g j) → sum f n ≡ sum g n
+  sum-same zero e = refl
+  sum-same (suc n) e = omega (arith, sum-same n (λ j h. e j (omega arith)), e n (omega arith))
+
+  pub sum-change : (n i : ℕ) → i < n → ((j : ℕ) → j < n → (j ≡ i → ⊥) → f j ≡ g j) → sum f n + g i ≡ sum g n + f i
+  sum-change zero i h e = absurd (omega arith)
+  sum-change (suc n) i h e =
+      elim (decLe n i) [
+        | yes l ↦
+            let last : i ≡ n = omega arith in
+            rw last (omega (arith, sum-same n (λ j k. e j (omega arith) (λ q. omega arith))))
+        | no l ↦ omega (arith, sum-change n i (omega arith) (λ j k q. e j (omega arith) q), e n (omega arith) (λ q. omega arith))
+      ]

@@ -9,11 +9,11 @@ use Rattle.base.specs.Bools.{if_then_else_}
 use Rattle.refusal.specs.Checked.{Checked, accepted, refused}
 use Rattle.conditions.specs.declared.Condition.{Condition}
 use Rattle.conditions.specs.Condition.{satisfied}
-use Rattle.table.specs.Table.{tableBytes}
+use Rattle.table.specs.Table.{Table, tableBytes}
 use Rattle.planning.specs.Expansion.{Entry}
 use Rattle.distance_steps.specs.Distance.{noDistance}
 use Rattle.distances.specs.Measure.{measured}
-use Rattle.marked_cases.specs.Trailer.{trailerBytes}
+use Rattle.marked_cases.specs.Trailer.{job, trailerBytes}
 use Rattle.marked_cases.specs.OneFactLess.{oneFactLessBytes}
 
 -- the depth of the first entry that a state meets, or 65,535
@@ -31,11 +31,19 @@ trailerRow =
 abbrev pub oneFactLessRow : List ℕ
 oneFactLessRow = 4 ∷ 4 ∷ 3 ∷ 2 ∷ 2 ∷ 3 ∷ 1 ∷ 1 ∷ 0 ∷ 0 ∷ 0 ∷ 0 ∷ 0 ∷ 0 ∷ 0 ∷ 0 ∷ []
 
+-- Two facts, both of them the goal, and one job, which adds the second and deletes the first: it leads nowhere. Without its deletes state 1 would come to
+-- the goal by it.
+abbrev pub deleting : Table
+deleting = record { facts = 2; jobs = job 0 2 1 60 ∷ []; goal = 3 }
+
+abbrev pub deletingRow : List ℕ
+deletingRow = 65535 ∷ 65535 ∷ 65535 ∷ 0 ∷ []
+
 -- a table of so many facts without jobs
 abbrev pub bare : ℕ → List ℕ
 bare facts = tableBytes (record { facts = facts; jobs = []; goal = 0 })
 
-pub record Answers : Type 0 where
+pub record RefusalsInOrder : Type 0 where
   pub trailer : measured trailerBytes 32 ≡ accepted 32
   pub one-fact-less : measured oneFactLessBytes 16 ≡ accepted 16
   -- the table's own stops come first, then 25, then 26

@@ -17,7 +17,7 @@ use Rattle.refusal.specs.Checked.{Checked, accepted}
 use Rattle.commands.specs.Commands.{widthOf, commandAt}
 use Rattle.numbers.specs.Numbers.{fromBytes, toBytes, numberAt}
 use Rattle.conditions.specs.declared.Condition.{Condition}
-use Rattle.conditions.specs.Condition.{weaker, consistent, satisfied, applied, relevant, regressed}
+use Rattle.conditions.specs.Condition.{plain, weaker, consistent, satisfied, applied, relevant, regressed}
 use Rattle.job.specs.Job.{jobAt, jobBytes}
 use Rattle.job.specs.Validation.{validatedJob}
 use Rattle.table.specs.Table.{Table, hasPair, jobsBytes, goalBytes, tableBytes}
@@ -35,7 +35,7 @@ use Rattle.distances.specs.Measure.{checkedRow, measured, Agrees, Measures}
 use Rattle.marked_cases.specs.Trailer.{trailer, trailerBytes}
 use Rattle.marked_cases.specs.OneFactLess.{oneFactLess, oneFactLessBytes}
 use Rattle.marked_cases.specs.Cases.{lists, all, whole, lessWhole}
-use Rattle.distance_cases.specs.DistanceCases.{firstDepth, trailerRow, oneFactLessRow, Answers}
+use Rattle.distance_cases.specs.DistanceCases.{firstDepth, trailerRow, oneFactLessRow, deleting, deletingRow, RefusalsInOrder}
 
 -- ---- a number that agrees with a list is the depth of the first entry met
 
@@ -86,7 +86,7 @@ row-by : (table before after : List ℕ) (t : Table) (n : ℕ) (p : Size) (l : L
     → measured table (length before) ≡ accepted n → length before ≡ n → planShift table (lists 4096) all .answer ≡ accepted p → planShift table (lists 4096) all .list ≡ l
     → Measures table before after told → after ≡ prefix (firstDepth l) n
 row-by table before after t n p l told read answer size planned list M =
-    let C = M .counts t read n answer in
+    let C = M .holds t read n answer in
     ext-getD 0 after (prefix (firstDepth l) n) (M .sized ∙ size ∙ sym (length-prefix (firstDepth l) n))
     (λ s h. let inside : s < n = omega (arith, h, M .sized, size) in
     agrees-depth _ _ s l (getD after s 0) (rw list at (C .agrees (lists 4096) all p planned s inside)) ∙ sym (getD-prefix (firstDepth l) n s 0 inside))
@@ -110,6 +110,12 @@ unfolding planShift tablePlan expand expandFrom expandEntry listed weaker consis
     Read.readGoal Read.readEnd Read.due jobAt validatedJob checkedRow firstDepth
 one-fact-less-computed = record { read = refl; answer = refl; planned = refl; list = refl; depths = refl }
 
+deleting-computed : Computed (tableBytes deleting) deleting 4 (record { entries = 1; bytes = 13; paired = false }) (record { condition = plain 3; action = 255; parent = 0; depth = 0 } ∷ []) deletingRow
+unfolding planShift tablePlan expand expandFrom expandEntry listed weaker consistent satisfied applied relevant regressed subset intersects union difference within
+    conditionBytes leafBytes firstBytes entryBytes laterEntries ownTree widthOf commandAt fromBytes toBytes numberAt hasPair Read.readTable Read.readJobs
+    Read.readGoal Read.readEnd Read.due jobAt validatedJob checkedRow firstDepth jobBytes jobsBytes goalBytes tableBytes
+deleting-computed = record { read = refl; answer = refl; planned = refl; list = refl; depths = refl }
+
 row-computed : {table : List ℕ} {t : Table} {n : ℕ} {p : Size} {l : List (Entry Condition)} {row : List ℕ} → Computed table t n p l row
     → (before after : List ℕ) (told : Checked ℕ) → length before ≡ n → Measures table before after told → after ≡ row
 row-computed {table} {t} {n} {p} {l} {row} C before after told size M =
@@ -121,12 +127,12 @@ pub record DistancesComputed : Type 0 where
   -- whatever stood in the row
   pub trailer-row : (before after : List ℕ) (told : Checked ℕ) → length before ≡ 32 → Measures trailerBytes before after told → after ≡ trailerRow
   pub one-fact-less-row : (before after : List ℕ) (told : Checked ℕ) → length before ≡ 16 → Measures oneFactLessBytes before after told → after ≡ oneFactLessRow
-  pub answers : Answers
+  pub deleting-row : (before after : List ℕ) (told : Checked ℕ) → length before ≡ 4 → Measures (tableBytes deleting) before after told → after ≡ deletingRow
+  pub answers : RefusalsInOrder
 
-answers-computed : Answers
-unfolding planShift tablePlan expand expandFrom expandEntry listed weaker consistent satisfied applied relevant regressed subset intersects union difference within
-    conditionBytes leafBytes firstBytes entryBytes laterEntries ownTree widthOf commandAt fromBytes toBytes numberAt hasPair Read.readTable Read.readJobs
-    Read.readGoal Read.readEnd Read.due jobAt validatedJob checkedRow jobsBytes goalBytes tableBytes
+answers-computed : RefusalsInOrder
+unfolding checkedRow subset intersects union within widthOf commandAt fromBytes toBytes numberAt Read.readTable Read.readJobs Read.readGoal Read.readEnd Read.due jobAt
+    validatedJob goalBytes jobsBytes tableBytes
 answers-computed =
     record {
       trailer = refl;
@@ -146,5 +152,6 @@ distances-computed =
     record {
       trailer-row = row-computed trailer-computed;
       one-fact-less-row = row-computed one-fact-less-computed;
+      deleting-row = row-computed deleting-computed;
       answers = answers-computed;
     }

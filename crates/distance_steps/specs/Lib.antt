@@ -1,3 +1,3 @@
 pub mod Distance
 pub mod Steps
-pub mod NearestLaws
+pub mod AheadLaws

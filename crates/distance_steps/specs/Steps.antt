@@ -22,7 +22,7 @@ abbrev pub firstLabel : Condition → ℕ → ℕ
 firstLabel goal s = if satisfied goal s then 0 else noDistance
 
 -- The rows have a mask for each action, there are n states, of which 15 facts give the most, and no action leads out of them.
-pub record Fits (needs absent adds deletes : List ℕ) (n : ℕ) : Type 0 where
+pub record MasksFit (needs absent adds deletes : List ℕ) (n : ℕ) : Type 0 where
   pub as-absent : length absent ≡ length needs
   pub as-adds : length adds ≡ length needs
   pub as-deletes : length deletes ≡ length needs
@@ -35,7 +35,7 @@ pub record Fits (needs absent adds deletes : List ℕ) (n : ℕ) : Type 0 where
 abbrev pub labelAfter : Actions → List ℕ → ℕ → ℕ → ℕ
 labelAfter A row s a = if satisfied (needed (A .action a)) s then labelOf row (applied (A .action a) s) else noDistance
 
--- the search for the nearest came to action a: the least so far
+-- the search for the least label came to action a: the least so far
 pub record LeastBelow (A : Actions) (row : List ℕ) (s a best : ℕ) : Type 0 where
   pub word : best ≤ noDistance
   pub reached : best < noDistance → (k : ℕ) × (k < A .count) × (labelAfter A row s k ≡ best)
@@ -46,10 +46,10 @@ module _ (A : Actions) (goal : Condition) where
   D = unitDomain A goal
 
   -- r is the least label that an action leads to from the state s
-  pub record Nearest (row : List ℕ) (s r : ℕ) : Type 0 where
+  pub record LeastAhead (row : List ℕ) (s r : ℕ) : Type 0 where
     pub reached : r < noDistance → (a : ℕ) × T (D .applicable a s) × (labelOf row (D .result a s) ≡ r)
     pub least : (a : ℕ) → T (D .applicable a s) → r ≤ labelOf row (D .result a s)
 
   -- no action leads to less than `floor`
-  abbrev pub NoNearer : List ℕ → ℕ → ℕ → Type 0
-  NoNearer row s floor = (a : ℕ) → T (D .applicable a s) → floor ≤ labelOf row (D .result a s)
+  abbrev pub NoneBelow : List ℕ → ℕ → ℕ → Type 0
+  NoneBelow row s floor = (a : ℕ) → T (D .applicable a s) → floor ≤ labelOf row (D .result a s)

@@ -10,7 +10,7 @@ ghost use Rattle.base.specs.Lists.{prefix};
 ghost use Rattle.conditions.specs.declared.Condition.{Condition};
 ghost use Rattle.conditions.specs.Condition.{plain};
 ghost use Rattle.expander.specs.Expands.{actionsOf};
-ghost use Rattle.distance_steps.specs.Steps.{Fits, labelAfter, firstLabel, Nearest, NoNearer};
+ghost use Rattle.distance_steps.specs.Steps.{MasksFit, labelAfter, firstLabel, LeastAhead, NoneBelow};
 
 // Stands for the distance of a state from which no sequence reaches the goal, or none was found yet.
 pub const NO_DISTANCE: u16 = 65_535;
@@ -49,7 +49,7 @@ fn label_after(
     s: usize,
     a: usize,
 ) -> u16
-    requires { ⌜ Fits (now needs) (now absent) (now adds) (now deletes) (length (now row)) × (s < length (now row)) × (a < length (now needs)) ⌝ }
+    requires { ⌜ MasksFit (now needs) (now absent) (now adds) (now deletes) (length (now row)) × (s < length (now row)) × (a < length (now needs)) ⌝ }
     ensures { λ r. ⌜ r ≡ labelAfter (actionsOf (now (needs .entry)) (now (absent .entry)) (now (adds .entry)) (now (deletes .entry))) (now (row .entry)) s a ⌝ }
 {
     let action = Action {
@@ -71,7 +71,7 @@ fn label_after(
 }
 
 // The least label that an action leads to. The search ends at `floor`, where no action leads to less.
-pub fn nearest(
+pub fn least_ahead(
     needs: &[u64],
     absent: &[u64],
     adds: &[u64],
@@ -80,10 +80,10 @@ pub fn nearest(
     s: usize,
     floor: u16,
 ) -> u16
-    requires { ⌜ Fits (now needs) (now absent) (now adds) (now deletes) (length (now row)) × (s < length (now row)) ⌝ }
+    requires { ⌜ MasksFit (now needs) (now absent) (now adds) (now deletes) (length (now row)) × (s < length (now row)) ⌝ }
     ensures { λ r. ⌜ ((goal : Condition)
-        → NoNearer (actionsOf (now (needs .entry)) (now (absent .entry)) (now (adds .entry)) (now (deletes .entry))) goal (now (row .entry)) s floor
-        → Nearest (actionsOf (now (needs .entry)) (now (absent .entry)) (now (adds .entry)) (now (deletes .entry))) goal (now (row .entry)) s r) ⌝ }
+        → NoneBelow (actionsOf (now (needs .entry)) (now (absent .entry)) (now (adds .entry)) (now (deletes .entry))) goal (now (row .entry)) s floor
+        → LeastAhead (actionsOf (now (needs .entry)) (now (absent .entry)) (now (adds .entry)) (now (deletes .entry))) goal (now (row .entry)) s r) ⌝ }
 {
     let mut best = NO_DISTANCE;
     let mut a: usize = 0;

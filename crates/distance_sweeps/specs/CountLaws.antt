@@ -11,27 +11,10 @@ use lib.Dec.{eqb}
 use lib.ListN.{length, getD, set, length-set}
 use lib.Seq.{getD-set-same, getD-set-other}
 use Rattle.base.specs.Bools.{if_then_else_}
-use Rattle.base.specs.Lists.{sum, sum-most}
+use Rattle.base.specs.Lists.{sum-most, sum-change}
 use Rattle.distance_steps.specs.Distance.{noDistance}
 use Rattle.distance_steps.specs.Steps.{labelOf}
 use Rattle.distance_sweeps.specs.Sweeps.{noneAt, unlabelled}
-
--- ---- sums of functions that differ at one index
-
-module _ (f g : ℕ → ℕ) where
-  sum-same : (n : ℕ) → ((j : ℕ) → j < n → f j ≡ g j) → sum f n ≡ sum g n
-  sum-same zero e = refl
-  sum-same (suc n) e = omega (arith, sum-same n (λ j h. e j (omega arith)), e n (omega arith))
-
-  sum-change : (n i : ℕ) → i < n → ((j : ℕ) → j < n → (j ≡ i → ⊥) → f j ≡ g j) → sum f n + g i ≡ sum g n + f i
-  sum-change zero i h e = absurd (omega arith)
-  sum-change (suc n) i h e =
-      elim (decLe n i) [
-        | yes l ↦
-            let last : i ≡ n = omega arith in
-            rw last (omega (arith, sum-same n (λ j k. e j (omega arith) (λ q. omega arith))))
-        | no l ↦ omega (arith, sum-change n i (omega arith) (λ j k q. e j (omega arith) q), e n (omega arith) (λ q. omega arith))
-      ]
 
 -- ---- states without a label
 
@@ -68,17 +51,17 @@ module _ (row : List ℕ) (s v : ℕ) (inside : s < length row) (labelled : v < 
   set-same : labelOf (set row s v) s ≡ v
   set-same = getD-set-same row s v 0 inside
 
-  changed : unlabelled (set row s v) (length row) + noneAt row s ≡ unlabelled row (length row)
-  changed =
-      let now : noneAt (set row s v) s ≡ 0 = none-labelled (set row s v) s (omega (arith, set-same)) in
+  counted : unlabelled (set row s v) (length row) + noneAt row s ≡ unlabelled row (length row)
+  counted =
+      let gone : noneAt (set row s v) s ≡ 0 = none-labelled (set row s v) s (omega (arith, set-same)) in
       let both = sum-change (noneAt (set row s v)) (noneAt row) (length row) s inside
       (λ j h q. ap (λ (k : ℕ). if eqb k noDistance then 1 else 0) (getD-set-other row s j v 0 q)) in
-      omega (arith, both, now)
+      omega (arith, both, gone)
 
   -- a label that changes leaves no more states without one
   pub set-fewer : unlabelled (set row s v) (length row) ≤ unlabelled row (length row)
-  set-fewer = omega (arith, changed)
+  set-fewer = omega (arith, counted)
 
   -- a state that had none leaves one state less without
   pub set-first : labelOf row s ≡ noDistance → suc (unlabelled (set row s v) (length row)) ≡ unlabelled row (length row)
-  set-first e = omega (arith, changed, none-none row s e)
+  set-first e = omega (arith, counted, none-none row s e)

@@ -19,7 +19,7 @@ use Rattle.conditions.specs.Condition.{satisfied}
 use Rattle.planning.specs.Sequence.{Reaches, Shortest}
 use Rattle.planning.specs.Facts.{Actions}
 use Rattle.distance_steps.specs.Distance.{noDistance, Distance, fewest, none}
-use Rattle.distance_steps.specs.Steps.{labelOf, firstLabel, D, Nearest, NoNearer}
+use Rattle.distance_steps.specs.Steps.{labelOf, firstLabel, D, LeastAhead, NoneBelow}
 use Rattle.distance_sweeps.specs.Sweeps.{unlabelled, ClosedAt, UpTo, Level, Looking, Improves, SweptTo}
 use Rattle.distance_sweeps.specs.CountLaws.{labelled-fewer, set-fewer, set-first}
 
@@ -130,14 +130,14 @@ module _ (A : Actions) (goal : Condition) where
         (λ a can. elim (decLe (suc (labelOf row (leads a))) done) [ yes m ↦ by-action a can m | no m ↦ omega arith ])
 
     -- its label is not final: then no action leads to less than `done`
-    module _ (high : suc done < labelOf row s) (best : ℕ) (near : NoNearer A goal row s done → Nearest A goal row s best) where
-      none-nearer : NoNearer A goal row s done
-      none-nearer a can = elim (decLe done (labelOf row (leads a))) [ yes m ↦ m | no m ↦ absurd (omega (arith, by-action a can (omega arith))) ]
+    module _ (high : suc done < labelOf row s) (best : ℕ) (near : NoneBelow A goal row s done → LeastAhead A goal row s best) where
+      none-below : NoneBelow A goal row s done
+      none-below a can = elim (decLe done (labelOf row (leads a))) [ yes m ↦ m | no m ↦ absurd (omega (arith, by-action a can (omega arith))) ]
 
-      abbrev N : Nearest A goal row s best
-      N = near none-nearer
+      abbrev N : LeastAhead A goal row s best
+      N = near none-below
 
-      -- a sequence that is not too long begins with an action, and that leads no nearer than the nearest
+      -- a sequence that is not too long begins with an action, and that leads to no less than the least
       no-fewer : (w : List ℕ) → Reaches (D A goal) s w → length w ≤ suc done → suc best ≤ length w
       no-fewer [] r h = absurd (omega (arith, L .upto s (K .inside) [] r (omega arith)))
       no-fewer (a ∷ w) r h =
@@ -145,12 +145,12 @@ module _ (A : Actions) (goal : Condition) where
           omega (arith, N .least a can, L .upto (leads a) (K .stays a s (K .inside) can) w (rest a s w r) (omega arith))
 
       -- no action leads nearer
-      pub nearest-kept : labelOf row s ≤ suc best → Improves A goal done s row row false
-      nearest-kept low = kept (λ w r h. omega (arith, no-fewer w r h)) (λ a can. omega (arith, N .least a can))
+      pub ahead-kept : labelOf row s ≤ suc best → Improves A goal done s row row false
+      ahead-kept low = kept (λ w r h. omega (arith, no-fewer w r h)) (λ a can. omega (arith, N .least a can))
 
       -- an action does
-      pub nearest-taken : suc best < labelOf row s → Improves A goal done s row (set row s (suc best)) true
-      nearest-taken less =
+      pub ahead-taken : suc best < labelOf row s → Improves A goal done s row (set row s (suc best)) true
+      ahead-taken less =
           let (a, can, is) = N .reached (omega (arith, K .word s)) in
           let there = K .stays a s (K .inside) can in
           let L′ = level-lowered done row L s best (K .inside) a can there is less (K .word s) in
@@ -162,7 +162,7 @@ module _ (A : Actions) (goal : Condition) where
             lowers = lowered-lowers done row L s best (K .inside) a can there is less (K .word s);
             next = λ w r h. omega (arith, here, no-fewer w r h);
             quiet = λ e. absurd (true≢false e);
-            moved = λ e. omega (arith, here, size, none-nearer a can, is, L′ .small s (omega (arith, K .inside, size)) (omega (arith, here, K .word s)));
+            moved = λ e. (omega (arith, here, size, none-below a can, is, L′ .small s (omega (arith, K .inside, size)) (omega (arith, here, K .word s))), omega (arith, here));
           }
 
   -- ---- a sweep, state by state
@@ -173,14 +173,16 @@ module _ (A : Actions) (goal : Condition) where
       record {
         level = L;
         sized = refl;
+        lowers = λ k. omega arith;
         next = λ s h k. absurd (omega arith);
-        quiet = λ e s h k. absurd (omega arith);
+        quiet = λ e. (refl, λ s h k. absurd (omega arith));
         moved = λ e. absurd (false≢true e);
       }
 
-  -- one state further down
-  module _ (done i j : ℕ) (up : j ≡ suc i) (before row after : List ℕ) (changed here now : Bool) (S : SweptTo A goal done j before row changed)
-      (I : Improves A goal done i row after here) (both-quiet : now ≡ false → (changed ≡ false) × (here ≡ false)) (one-moved : now ≡ true → (changed ≡ true) ⊎ (here ≡ true)) where
+  -- one state further down, whose flag `here` joins that of the states before it to `either`
+  module _ (done i j : ℕ) (up : j ≡ suc i) (before row after : List ℕ) (changed here either : Bool) (S : SweptTo A goal done j before row changed)
+      (I : Improves A goal done i row after here) (both-quiet : either ≡ false → (changed ≡ false) × (here ≡ false))
+      (one-moved : either ≡ true → (changed ≡ true) ⊎ (here ≡ true)) where
     further : (s : ℕ) → i ≤ s → (s ≡ i → ⊥) → j ≤ s
     further s h q = elim (decLe j s) [ yes m ↦ m | no m ↦ absurd (q (omega arith)) ]
 
@@ -191,22 +193,30 @@ module _ (A : Actions) (goal : Condition) where
           | no q ↦ λ w r m. omega (arith, I .lowers s, S .next s (further s h q) (omega (arith, I .sized)) w r m)
         ]
 
-    quiet : now ≡ false → (s : ℕ) → i ≤ s → s < length after → ClosedAt A goal after s
-    quiet e s h k =
-        let (steady, closed) = I .quiet (both-quiet e .1) in
-        elim (ℕ-discrete s i) [
-          | yes q ↦ rw q closed
-          | no q ↦ rw steady (S .quiet (both-quiet e .0) s (further s h q) (omega (arith, I .sized)))
-        ]
+    quiet : either ≡ false → (after ≡ before) × ((s : ℕ) → i ≤ s → s < length after → ClosedAt A goal after s)
+    quiet e =
+        let (same, closed) = I .quiet (both-quiet e .1) in
+        let (steady, shut) = S .quiet (both-quiet e .0) in (
+          same ∙ steady,
+          (λ s h k. elim (ℕ-discrete s i) [ yes q ↦ rw q closed | no q ↦ rw same (shut s (further s h q) (omega (arith, I .sized))) ]),
+        )
 
-    pub sweep-further : SweptTo A goal done i before after now
+    moved : either ≡ true → (suc done < length after) × (s : ℕ) × (labelOf after s < labelOf before s)
+    moved e =
+        ⊎-elim
+        (λ m. let (more, s, less) = S .moved m in (omega (arith, I .sized), s, omega (arith, I .lowers s)))
+        (λ m. let (more, less) = I .moved m in (more, i, omega (arith, S .lowers i)))
+        (one-moved e)
+
+    pub sweep-further : SweptTo A goal done i before after either
     sweep-further =
         record {
           level = I .level;
           sized = I .sized ∙ S .sized;
+          lowers = λ k. omega (arith, I .lowers k, S .lowers k);
           next = next;
           quiet = quiet;
-          moved = λ e. ⊎-elim (λ m. omega (arith, S .moved m, I .sized)) (λ m. I .moved m) (one-moved e);
+          moved = moved;
         }
 
   -- a whole sweep takes the row one level on

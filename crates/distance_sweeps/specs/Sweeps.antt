@@ -15,10 +15,11 @@ use Rattle.planning.specs.Facts.{Actions}
 use Rattle.distance_steps.specs.Distance.{noDistance, Distance}
 use Rattle.distance_steps.specs.Steps.{labelOf, D}
 
--- how many of the first n states have no label yet
+-- 1 for a state that has no label yet
 abbrev pub noneAt : List ℕ → ℕ → ℕ
 noneAt row s = if eqb (labelOf row s) noDistance then 1 else 0
 
+-- how many of the first n states have none
 abbrev pub unlabelled : List ℕ → ℕ → ℕ
 unlabelled row n = sum (noneAt row) n
 
@@ -38,7 +39,7 @@ module _ (A : Actions) (goal : Condition) where
   pub record Level (done : ℕ) (row : List ℕ) : Type 0 where
     -- each label is the length of a sequence
     pub sound : (s : ℕ) → s < length row → labelOf row s < noDistance → (w : List ℕ) × Reaches (D A goal) s w × (length w ≡ labelOf row s)
-    -- what is at most so far away has its distance
+    -- and no sequence of at most `done` actions is shorter: what is so far away has its distance
     pub upto : (s : ℕ) → s < length row → UpTo done row s
     -- a label is less than the states that have one
     pub small : (s : ℕ) → s < length row → labelOf row s < noDistance → labelOf row s + unlabelled row (length row) < length row
@@ -52,22 +53,23 @@ module _ (A : Actions) (goal : Condition) where
     pub word : (k : ℕ) → labelOf row k ≤ noDistance
     pub stays : (a k : ℕ) → k < length row → T (D A goal .applicable a k) → D A goal .result a k < length row
 
-  -- within a sweep: the state s was looked at, and `changed` says whether it got another label
+  -- Within a sweep: the state s was looked at, and `changed` says whether it got a lower label. Where it did, there are more states than sweeps.
   pub record Improves (done s : ℕ) (before after : List ℕ) (changed : Bool) : Type 0 where
     pub level : Level done after
     pub sized : length after ≡ length before
     pub lowers : (k : ℕ) → labelOf after k ≤ labelOf before k
     pub next : UpTo (suc done) after s
     pub quiet : changed ≡ false → (after ≡ before) × ClosedAt after s
-    pub moved : changed ≡ true → suc done < length after
+    pub moved : changed ≡ true → (suc done < length after) × (labelOf after s < labelOf before s)
 
-  -- a sweep that came from the last state down to the state i, and is whole where i is 0; `changed` says whether some state got another label
+  -- A sweep that came from the last state down to the state i, and is whole where i is 0. `changed` says whether some state got a lower label.
   pub record SweptTo (done i : ℕ) (before after : List ℕ) (changed : Bool) : Type 0 where
     pub level : Level done after
     pub sized : length after ≡ length before
+    pub lowers : (k : ℕ) → labelOf after k ≤ labelOf before k
     pub next : (s : ℕ) → i ≤ s → s < length after → UpTo (suc done) after s
-    pub quiet : changed ≡ false → (s : ℕ) → i ≤ s → s < length after → ClosedAt after s
-    pub moved : changed ≡ true → suc done < length after
+    pub quiet : changed ≡ false → (after ≡ before) × ((s : ℕ) → i ≤ s → s < length after → ClosedAt after s)
+    pub moved : changed ≡ true → (suc done < length after) × (s : ℕ) × (labelOf after s < labelOf before s)
 
   -- ---- all sweeps
 

@@ -5,7 +5,7 @@ ghost use lib.ListN.{length};
 ghost use Rattle.conditions.specs.declared.Condition.{Condition};
 ghost use Rattle.conditions.specs.Condition.{plain};
 ghost use Rattle.expander.specs.Expands.{actionsOf};
-ghost use Rattle.distance_steps.specs.Steps.{Fits};
+ghost use Rattle.distance_steps.specs.Steps.{MasksFit};
 ghost use Rattle.distance_sweeps.specs.Sweeps.{Level, Improves, SweptTo, Distances};
 
 // Looks at one state: where an action leads nearer than its label says, it gets one more than the least label that an action leads to. Says whether it
@@ -19,7 +19,7 @@ fn improve(
     s: usize,
     done: u16,
 ) -> bool
-    requires { ⌜ Fits (now needs) (now absent) (now adds) (now deletes) (length (now row)) × (s < length (now row)) × (done < length (now row)) ⌝ }
+    requires { ⌜ MasksFit (now needs) (now absent) (now adds) (now deletes) (length (now row)) × (s < length (now row)) × (done < length (now row)) ⌝ }
     ensures { λ r. ⌜ ((goal : Condition)
         → Level (actionsOf (now (needs .entry)) (now (absent .entry)) (now (adds .entry)) (now (deletes .entry))) goal done (now (row .entry))
         → Improves (actionsOf (now (needs .entry)) (now (absent .entry)) (now (adds .entry)) (now (deletes .entry))) goal done s (now (row .entry)) (now (row .exit)) r) ⌝ }
@@ -28,7 +28,7 @@ fn improve(
     if label <= done + 1 {
         return false;
     }
-    let best = distance_steps::nearest(needs, absent, adds, deletes, row, s, done);
+    let best = distance_steps::least_ahead(needs, absent, adds, deletes, row, s, done);
     if best < label - 1 {
         row[s] = best + 1;
         return true;
@@ -45,7 +45,7 @@ fn sweep(
     row: &mut [u16],
     done: u16,
 ) -> bool
-    requires { ⌜ Fits (now needs) (now absent) (now adds) (now deletes) (length (now row)) × (done < length (now row)) ⌝ }
+    requires { ⌜ MasksFit (now needs) (now absent) (now adds) (now deletes) (length (now row)) × (done < length (now row)) ⌝ }
     ensures { λ r. ⌜ ((goal : Condition)
         → Level (actionsOf (now (needs .entry)) (now (absent .entry)) (now (adds .entry)) (now (deletes .entry))) goal done (now (row .entry))
         → SweptTo (actionsOf (now (needs .entry)) (now (absent .entry)) (now (adds .entry)) (now (deletes .entry))) goal done 0 (now (row .entry)) (now (row .exit)) r) ⌝ }
@@ -70,7 +70,7 @@ pub fn measure_states(
     goal: u64,
     row: &mut [u16],
 )
-    requires { ⌜ Fits (now needs) (now absent) (now adds) (now deletes) (length (now row)) × (0 < length (now row)) ⌝ }
+    requires { ⌜ MasksFit (now needs) (now absent) (now adds) (now deletes) (length (now row)) × (0 < length (now row)) ⌝ }
     ensures { λ _. ⌜ Distances (actionsOf (now (needs .entry)) (now (absent .entry)) (now (adds .entry)) (now (deletes .entry))) (plain goal) (now (row .entry)) (now (row .exit)) ⌝ }
 {
     distance_steps::label_goal(goal, row);

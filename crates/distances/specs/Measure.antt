@@ -30,12 +30,12 @@ mostFacts = 15
 
 -- "More than 15 facts is refused as 25, a row of another length than the states as 26, in that order after 7." A state is a held mask without a bit at
 -- or above F, so that there are 2 ^ F of them.
-unfoldable pub checkedRow : (facts length : ℕ) → Checked ℕ
-checkedRow facts length = if leb facts mostFacts then (if eqb length (2 ^ facts) then accepted (2 ^ facts) else refused 26 0) else refused 25 0
+unfoldable pub checkedRow : (facts size : ℕ) → Checked ℕ
+checkedRow facts size = if leb facts mostFacts then (if eqb size (2 ^ facts) then accepted (2 ^ facts) else refused 26 0) else refused 25 0
 
--- how many states have their distance in a row of this length
+-- how many states have their distance in a row of this size
 abbrev pub measured : List ℕ → ℕ → Checked ℕ
-measured table length = andThen (readTable table) λ t. checkedRow (t .facts) length
+measured table size = andThen (readTable table) λ t. checkedRow (t .facts) size
 
 -- the answer of the code, in these terms
 abbrev pub measuredOf : Measured → Checked ℕ
@@ -52,7 +52,7 @@ pub record Agrees (D : Domain ℕ Condition ℕ) (l : List (Entry Condition)) (s
   pub none-met : (n ≡ noDistance) ↔ (CoveredBy D l s → ⊥)
 
 -- Of the table t that was read, and its n states with their numbers in the row:
-pub record Counts (t : Table) (table : List ℕ) (n : ℕ) (row : List ℕ) : Type 0 where
+pub record HoldsDistances (t : Table) (table : List ℕ) (n : ℕ) (row : List ℕ) : Type 0 where
   -- "for each state the fewest jobs to the goal, or 65,535 for none"
   pub distances : (s : ℕ) → s < n → Distance (tableDomain t) s (getD row s 0)
   -- whatever is lent to the plan for the whole shift
@@ -63,6 +63,6 @@ pub record Counts (t : Table) (table : List ℕ) (n : ℕ) (row : List ℕ) : Ty
 pub record Measures (table before after : List ℕ) (told : Checked ℕ) : Type 0 where
   pub answer : told ≡ measured table (length before)
   pub sized : length after ≡ length before
-  pub counts : (t : Table) → readTable table ≡ accepted t → (n : ℕ) → measured table (length before) ≡ accepted n → Counts t table n after
+  pub holds : (t : Table) → readTable table ≡ accepted t → (n : ℕ) → measured table (length before) ≡ accepted n → HoldsDistances t table n after
   -- "Every other refused call .. writes to nothing that is lent"
   pub untouched : (number place : ℕ) → measured table (length before) ≡ refused number place → after ≡ before

@@ -35,24 +35,24 @@ use Rattle.builder.specs.WorksLaws.{within-facts, separate}
 use Rattle.shift_planner.specs.Shift.{planShift}
 use Rattle.shift_planner.specs.ShiftLaws.{shift-ended}
 use Rattle.distance_steps.specs.Distance.{Distance}
-use Rattle.distance_steps.specs.Steps.{Fits}
+use Rattle.distance_steps.specs.Steps.{MasksFit}
 use Rattle.distance_sweeps.specs.Sweeps.{Distances}
-use Rattle.distances.specs.Measure.{mostFacts, checkedRow, measured, Counts, Measures}
+use Rattle.distances.specs.Measure.{mostFacts, checkedRow, measured, HoldsDistances, Measures}
 use Rattle.distances.specs.AgreeLaws.{distance-agrees}
 
 -- ---- the rows of a table's jobs
 
 module _ (s : List ℕ) (b : AreBytes s) (t : Table) (e : readTable s ≡ accepted t) where
-  rows-same : actionsOf (needs (t .jobs)) (absents true (t .jobs)) (adds (t .jobs)) (deletes (t .jobs)) ≡ tableActions t
-  rows-same = rows-actions t true (λ q. absurd (true≢false q)) (read-sound s b t e .few)
+  masks-same : actionsOf (needs (t .jobs)) (absents true (t .jobs)) (adds (t .jobs)) (deletes (t .jobs)) ≡ tableActions t
+  masks-same = rows-actions t true (λ q. absurd (true≢false q)) (read-sound s b t e .few)
 
   -- no job leads out of the states
   stays : (a k : ℕ) → a < length (t .jobs) → k < 2 ^ t .facts → applied (tableActions t .action a) k < 2 ^ t .facts
   stays a k h l =
       within-lt (t .facts) _ (applied-within (t .facts) (tableActions t .action a) (within-facts s b t e 0 Never .actions-within a h) k (lt-within (t .facts) k l))
 
-  rows-fit : t .facts ≤ mostFacts → Fits (needs (t .jobs)) (absents true (t .jobs)) (adds (t .jobs)) (deletes (t .jobs)) (2 ^ t .facts)
-  rows-fit few =
+  masks-fit : t .facts ≤ mostFacts → MasksFit (needs (t .jobs)) (absents true (t .jobs)) (adds (t .jobs)) (deletes (t .jobs)) (2 ^ t .facts)
+  masks-fit few =
       let size : (field : Job → ℕ) → length (map field (t .jobs)) ≡ length (t .jobs) = λ field. length-map (t .jobs) field in
       record {
         as-absent = size (λ j. actionOf j .absent) ∙ sym (size (λ j. actionOf j .needs));
@@ -60,7 +60,7 @@ module _ (s : List ℕ) (b : AreBytes s) (t : Table) (e : readTable s ≡ accept
         as-deletes = size (λ j. actionOf j .deletes) ∙ sym (size (λ j. actionOf j .needs));
         few-actions = omega (arith, size (λ j. actionOf j .needs), read-sound s b t e .few);
         few-states = pow-mono few;
-        stays = λ a k h l m. rw (ap (λ (A : Actions). applied (A .action a) k) rows-same) (stays a k (omega (arith, size (λ j. actionOf j .needs))) l);
+        stays = λ a k h l m. rw (ap (λ (A : Actions). applied (A .action a) k) masks-same) (stays a k (omega (arith, size (λ j. actionOf j .needs))) l);
       }
 
 module _ (s : List ℕ) (b : AreBytes s) (h : Header) (e : accepted h ≡ headed (readTable s)) (t : Table) (r : accepted t ≡ readTable s)
@@ -69,54 +69,52 @@ module _ (s : List ℕ) (b : AreBytes s) (h : Header) (e : accepted h ≡ headed
     (in-absent : absent′ ≡ loaded (λ j. j .absent) (jobsOf (readTable s)) absent₀ (h .jobs))
     (in-adds : adds′ ≡ loaded (λ j. j .adds) (jobsOf (readTable s)) adds₀ (h .jobs))
     (in-deletes : deletes′ ≡ loaded (λ j. j .deletes) (jobsOf (readTable s)) deletes₀ (h .jobs)) where
-  row-is : (field : Job → ℕ) (row₀ row : List ℕ) → row ≡ loaded field (jobsOf (readTable s)) row₀ (h .jobs) → take (h .jobs) row ≡ map field (t .jobs)
-  row-is field row₀ row q =
+  masks-are : (field : Job → ℕ) (row₀ row : List ℕ) → row ≡ loaded field (jobsOf (readTable s)) row₀ (h .jobs) → take (h .jobs) row ≡ map field (t .jobs)
+  masks-are field row₀ row q =
       ap (take (h .jobs)) q ∙ load-whole field (jobsOf (readTable s)) row₀ (h .jobs) (header-count s b h e) ∙ ap (λ (c : Checked Table). map field (jobsOf c)) (sym r)
 
-  pub fits-table : h .facts ≤ mostFacts → Fits (take (h .jobs) needs′) (take (h .jobs) absent′) (take (h .jobs) adds′) (take (h .jobs) deletes′) (2 ^ h .facts)
+  -- what is lent on holds the masks of the table's jobs
+  lent : (take (h .jobs) needs′ ≡ needs (t .jobs)) × (take (h .jobs) absent′ ≡ absents true (t .jobs)) × (take (h .jobs) adds′ ≡ adds (t .jobs))
+      × (take (h .jobs) deletes′ ≡ deletes (t .jobs))
+  lent = (
+    masks-are (λ j. j .needs) needs₀ needs′ in-needs,
+    masks-are (λ j. j .absent) absent₀ absent′ in-absent,
+    masks-are (λ j. j .adds) adds₀ adds′ in-adds,
+    masks-are (λ j. j .deletes) deletes₀ deletes′ in-deletes,
+  )
+
+  pub fits-table : h .facts ≤ mostFacts → MasksFit (take (h .jobs) needs′) (take (h .jobs) absent′) (take (h .jobs) adds′) (take (h .jobs) deletes′) (2 ^ h .facts)
   fits-table few =
       let same = ap (λ (x : Header). x .facts) (sym (same-header s b h e t r)) in
-      rw (
-        row-is (λ j. j .needs) needs₀ needs′ in-needs,
-        row-is (λ j. j .absent) absent₀ absent′ in-absent,
-        row-is (λ j. j .adds) adds₀ adds′ in-adds,
-        row-is (λ j. j .deletes) deletes₀ deletes′ in-deletes,
-        same,
-      ) (rows-fit s b t (sym r) (omega (arith, same)))
+      rw (lent .0, lent .1, lent .2, lent .3, same) (masks-fit s b t (sym r) (omega (arith, same)))
 
   pub distances-table : (before after : List ℕ)
       → Distances (actionsOf (take (h .jobs) needs′) (take (h .jobs) absent′) (take (h .jobs) adds′) (take (h .jobs) deletes′)) (plain (h .goal)) before after
       → Distances (tableActions t) (plain (t .goal)) before after
   distances-table before after d =
-      rw (
-        row-is (λ j. j .needs) needs₀ needs′ in-needs,
-        row-is (λ j. j .absent) absent₀ absent′ in-absent,
-        row-is (λ j. j .adds) adds₀ adds′ in-adds,
-        row-is (λ j. j .deletes) deletes₀ deletes′ in-deletes,
-        rows-same s b t (sym r),
-        ap (λ (x : Header). x .goal) (sym (same-header s b h e t r)),
-      ) at d
+      let goal = ap (λ (x : Header). x .goal) (sym (same-header s b h e t r)) in
+      rw (lent .0, lent .1, lent .2, lent .3, masks-same s b t (sym r), goal) at d
 
 -- ---- the checks
 
 module _ (facts size : ℕ) where
-  pub row-many : mostFacts < facts → refused 25 0 ≡ checkedRow facts size
+  pub facts-many : mostFacts < facts → refused 25 0 ≡ checkedRow facts size
   unfolding checkedRow
-  row-many h = rw (lt-leb facts mostFacts h)
+  facts-many h = rw (lt-leb facts mostFacts h)
 
   module _ (few : facts ≤ mostFacts) where
-    pub row-whole : size ≡ 2 ^ facts → accepted (2 ^ facts) ≡ checkedRow facts size
+    pub length-fits : size ≡ 2 ^ facts → accepted (2 ^ facts) ≡ checkedRow facts size
     unfolding checkedRow
-    row-whole e = rw (le-leb facts mostFacts few, eq-eqb size (2 ^ facts) e)
+    length-fits e = rw (le-leb facts mostFacts few, eq-eqb size (2 ^ facts) e)
 
-    pub row-other : (size ≡ 2 ^ facts → ⊥) → refused 26 0 ≡ checkedRow facts size
+    pub length-other : (size ≡ 2 ^ facts → ⊥) → refused 26 0 ≡ checkedRow facts size
     unfolding checkedRow
-    row-other q = rw (le-leb facts mostFacts few, ne-eqb size (2 ^ facts) q)
+    length-other q = rw (le-leb facts mostFacts few, ne-eqb size (2 ^ facts) q)
 
   -- what an accepted row says of them
-  pub row-told : (n : ℕ) → accepted n ≡ checkedRow facts size → (facts ≤ mostFacts) × (size ≡ 2 ^ facts) × (n ≡ 2 ^ facts)
+  pub row-fits : (n : ℕ) → accepted n ≡ checkedRow facts size → (facts ≤ mostFacts) × (size ≡ 2 ^ facts) × (n ≡ 2 ^ facts)
   unfolding checkedRow
-  row-told n e = by-facts (leb facts mostFacts) (leb-true facts mostFacts) (eqb size (2 ^ facts)) (eqb-true size (2 ^ facts)) e
+  row-fits n e = by-facts (leb facts mostFacts) (leb-true facts mostFacts) (eqb size (2 ^ facts)) (eqb-true size (2 ^ facts)) e
     where
       by-facts : (f : Bool) → (f ≡ true → facts ≤ mostFacts) → (q : Bool) → (q ≡ true → size ≡ 2 ^ facts)
           → accepted n ≡ (if f then (if q then accepted (2 ^ facts) else refused 26 0) else refused 25 0) → (facts ≤ mostFacts) × (size ≡ 2 ^ facts) × (n ≡ 2 ^ facts)
@@ -128,7 +126,7 @@ module _ (facts size : ℕ) where
 pub measured-whole : (table : List ℕ) (t : Table) → readTable table ≡ accepted t → (size n : ℕ) → measured table size ≡ accepted n → size ≡ n
 measured-whole table t read size n e =
     let told : accepted n ≡ checkedRow (t .facts) size = sym e ∙ rw read in
-    let (few, whole, states) = row-told (t .facts) size n told in
+    let (few, whole, states) = row-fits (t .facts) size n told in
     whole ∙ sym states
 
 -- ---- the answers
@@ -136,7 +134,7 @@ measured-whole table t read size n e =
 module _ (table before : List ℕ) where
   -- nothing was written
   nothing : (told : Checked ℕ) → told ≡ measured table (length before) → ((n : ℕ) → told ≡ accepted n → ⊥) → Measures table before before told
-  nothing told e never = record { answer = e; sized = refl; counts = λ t read n a. absurd (never n (e ∙ a)); untouched = λ n p q. refl }
+  nothing told e never = record { answer = e; sized = refl; holds = λ t read n a. absurd (never n (e ∙ a)); untouched = λ n p q. refl }
 
   pub measures-table-bad : (number place : ℕ) → refused number place ≡ readTable table → Measures table before before (refused number place)
   measures-table-bad number place e = nothing (refused number place) (rw (← e)) (λ n a. not-both a)
@@ -153,7 +151,7 @@ module _ (table before : List ℕ) where
         record {
           answer = whole;
           sized = d .sized;
-          counts = counts;
+          holds = holds;
           untouched = λ number place q. absurd (not-both (sym q ∙ sym whole ∙ is));
         }
       where
@@ -161,9 +159,9 @@ module _ (table before : List ℕ) where
         whole = rw (← read) e
 
         each : (k : ℕ) → k < n → Distance (tableDomain t) k (getD after k 0)
-        each k h = d .each k (omega (arith, d .sized, row-told (t .facts) (length before) n (sym is ∙ e)))
+        each k h = d .each k (omega (arith, d .sized, row-fits (t .facts) (length before) n (sym is ∙ e)))
 
-        here : Counts t table n after
+        here : HoldsDistances t table n after
         here =
             record {
               distances = each;
@@ -172,5 +170,5 @@ module _ (table before : List ℕ) where
                   (shift-ended table t (sym read) capacity room p planned) k _ (each k h);
             }
 
-        counts : (u : Table) → readTable table ≡ accepted u → (m : ℕ) → measured table (length before) ≡ accepted m → Counts u table m after
-        counts u r m a = rw (sym (accepted-same (read ∙ r)), sym (accepted-same (sym is ∙ whole ∙ a))) here
+        holds : (u : Table) → readTable table ≡ accepted u → (m : ℕ) → measured table (length before) ≡ accepted m → HoldsDistances u table m after
+        holds u r m a = rw (sym (accepted-same (read ∙ r)), sym (accepted-same (sym is ∙ whole ∙ a))) here

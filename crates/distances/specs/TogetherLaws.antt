@@ -38,7 +38,7 @@ module _ (table : List ℕ) (t : Table) (read : readTable table ≡ accepted t) 
       let l = planShift table (room before) (length lent) .list in
       let W = P .writes in
       let planned = sym (W .answer-and-tree .answer) ∙ built in
-      let agrees = M .counts t read n states .agrees (room before) (length lent) p planned s h in
+      let agrees = M .holds t read n states .agrees (room before) (length lent) p planned s h in
       agrees .first-depth i first
       ∙ sym (ap (λ (c : Columns). getD (c .depths) i 0) (W .tables) ∙ over-at (λ x. x .depth) l (before .depths) i (root (tableDomain t)) (first .inside))
 
@@ -47,4 +47,4 @@ module _ (table : List ℕ) (t : Table) (read : readTable table ≡ accepted t) 
   row-only other told′ N =
       ext-getD 0 other row′ (N .sized ∙ sym (M .sized))
       (λ s h. let inside : s < n = omega (arith, h, N .sized, measured-whole table t read (length row) n states) in
-      distance-unique (tableDomain t) s _ _ (N .counts t read n states .distances s inside) (M .counts t read n states .distances s inside))
+      distance-unique (tableDomain t) s _ _ (N .holds t read n states .distances s inside) (M .holds t read n states .distances s inside))

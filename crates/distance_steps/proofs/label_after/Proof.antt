@@ -11,7 +11,7 @@ use Rattle.conditions.specs.OnReading.{finished}
 use Rattle.conditions.specs.OnReadingLaws.{applicable-state, finished-state}
 use Rattle.expander.specs.Expands.{actionsOf}
 use Rattle.planning.specs.Facts.{Actions}
-use Rattle.distance_steps.specs.NearestLaws.{label-applicable, label-inapplicable}
+use Rattle.distance_steps.specs.AheadLaws.{label-applicable, label-inapplicable}
 use Rattle.distance_steps.proofs.label_after.Statement.{statement}
 use Rattle.distance_steps.proofs.label_after.Tie as tie
 

@@ -1,4 +1,4 @@
--- `distance_sweeps::improve` meets its contract: a final label is kept, and any other is held against the nearest.
+-- `distance_sweeps::improve` meets its contract: a final label is kept, and any other is held against the least that an action leads to.
 -- Assumes nothing.
 use Prim.Native.Nat.{ℕ, _+_, _≤_, _<_, suc}
 use native.Mathlib.Omega.{arith}
@@ -13,8 +13,8 @@ use Rattle.expander.specs.Expands.{actionsOf}
 use Rattle.distance_steps.specs.Distance.{noDistance}
 use Rattle.distance_steps.specs.Steps.{labelOf}
 use Rattle.distance_sweeps.specs.Sweeps.{Level, Looking}
-use Rattle.distance_steps.specs.NearestLaws.{fits-stays}
-use Rattle.distance_sweeps.specs.SweepLaws.{final-kept, nearest-kept, nearest-taken}
+use Rattle.distance_steps.specs.AheadLaws.{masks-stay}
+use Rattle.distance_sweeps.specs.SweepLaws.{final-kept, ahead-kept, ahead-taken}
 use Rattle.distance_sweeps.proofs.improve.Statement.{statement}
 use Rattle.distance_sweeps.proofs.improve.Tie as tie
 
@@ -35,9 +35,9 @@ actions-of c = let a = start-of c .args in actionsOf (a .needs .now) (a .absent 
 word : (c : Read) (s : ℕ) → labelOf (row-of c) s ≤ noDistance
 word c s = omega (arith, c .before .slice-known .given s .fits)
 
--- the nearest is known
+-- the least that an action leads to is known
 abbrev Known : Type 0
-Known = tie.After-nearest
+Known = tie.After-least-ahead
 
 abbrev read-of : Known → Read
 read-of c = c .before .before .before
@@ -50,7 +50,7 @@ looking : (k : Read) (goal : Condition) → Level (actions-of k) goal (start-of 
     → Looking (actions-of k) goal (start-of k .args .done) (row-of k) (start-of k .args .s)
 looking k goal L =
     let p = start-of k .pre in
-    record { level = L; inside = p .1; early = p .2; few = p .0 .few-states; word = word k; stays = fits-stays (p .0) goal }
+    record { level = L; inside = p .1; early = p .2; few = p .0 .few-states; word = word k; stays = masks-stay (p .0) goal }
 
 -- ---- the answers
 
@@ -66,8 +66,8 @@ add-if1 c = search needs
 returns : tie.Need-returns
 returns c = let k = c .before in λ goal L. final-kept (actions-of k) goal _ _ _ (looking k goal L) (omega (arith, c .if1 .taken))
 
-nearest-requires : tie.Need-nearest-requires
-nearest-requires c κs = search needs
+least-ahead-requires : tie.Need-least-ahead-requires
+least-ahead-requires c κs = search needs
 
 sub-if2 : tie.Need-sub-if2
 sub-if2 c = search needs
@@ -88,7 +88,7 @@ returns-2 : tie.Need-returns-2
 returns-2 c =
     let n = c .before in
     let k = read-of n in
-    λ goal L. rw add-one (nearest-taken (actions-of k) goal _ _ _ (looking k goal L) (high n) _ (n .nearest .ensures goal) (omega (arith, high n, c .if2 .taken)))
+    λ goal L. rw add-one (ahead-taken (actions-of k) goal _ _ _ (looking k goal L) (high n) _ (n .least-ahead .ensures goal) (omega (arith, high n, c .if2 .taken)))
 
 same-length-2 : tie.Need-same-length-2
 same-length-2 c = search needs
@@ -97,7 +97,7 @@ returns-3 : tie.Need-returns-3
 returns-3 c =
     let n = c .before in
     let k = read-of n in
-    λ goal L. nearest-kept (actions-of k) goal _ _ _ (looking k goal L) (high n) _ (n .nearest .ensures goal) (omega (arith, high n, c .if2 .left))
+    λ goal L. ahead-kept (actions-of k) goal _ _ _ (looking k goal L) (high n) _ (n .least-ahead .ensures goal) (omega (arith, high n, c .if2 .left))
 
 pub improve-spec : {M : Type 1} → statement M
 improve-spec =
@@ -107,7 +107,7 @@ improve-spec =
     slice-read-label
     add-if1
     returns
-    nearest-requires
+    least-ahead-requires
     sub-if2
     add-row
     mul-row

@@ -17,7 +17,7 @@ use Rattle.expander.specs.Expands.{actionsOf}
 use Rattle.distance_steps.specs.Distance.{noDistance}
 use Rattle.distance_steps.specs.Steps.{labelOf, firstLabel}
 use Rattle.distance_sweeps.specs.Sweeps.{Level, ClosedAt, SweptTo}
-use Rattle.distance_steps.specs.NearestLaws.{fits-stays}
+use Rattle.distance_steps.specs.AheadLaws.{masks-stay}
 use Rattle.distance_sweeps.specs.SweepLaws.{level-first, sweep-whole, level-last}
 use Rattle.distance_sweeps.proofs.measure_states.Statement.{statement}
 use Rattle.distance_sweeps.proofs.measure_states.Tie as tie
@@ -109,10 +109,10 @@ loop-again : tie.Need-loop-again Inv-loop μ-loop
 loop-again c =
     let l = loop-of c in
     let S = swept c in (
-      (S .sized ∙ l .loop .inv .0 .0, omega (arith, S .sized, l .loop .inv .0 .2 (sweep-of c .before .before .loop-test .taken)), λ e. omega (arith, S .moved e)),
+      (S .sized ∙ l .loop .inv .0 .0, omega (arith, S .sized, l .loop .inv .0 .2 (sweep-of c .before .before .loop-test .taken)), λ e. omega (arith, S .moved e .0)),
       (λ s. omega (arith, c .slice-known3 .given s .fits)),
       rw add-one (sweep-whole _ _ _ _ _ _ S),
-      (λ e s h. S .quiet e s (omega arith) h),
+      (λ e s h. S .quiet e .1 s (omega arith) h),
     )
 
 same-length : tie.Need-same-length Inv-loop μ-loop
@@ -127,7 +127,7 @@ returns c =
     let F = start-of k .pre .0 in
     record {
       sized = size;
-      each = level-last (actions-of k) (goal-of k) (l .loop .done) (l .loop .row) (i .2) (i .3 (c .loop-test .left)) (omega (arith, size, F .few-states)) (i .1) (rw size (fits-stays F (goal-of k)));
+      each = level-last (actions-of k) (goal-of k) (l .loop .done) (l .loop .row) (i .2) (i .3 (c .loop-test .left)) (omega (arith, size, F .few-states)) (i .1) (rw size (masks-stay F (goal-of k)));
     }
 
 pub measure-states-spec : {M : Type 1} → statement M

@@ -48,14 +48,14 @@ abbrev row-after : Looked → List ℕ
 row-after c = improved-of c .improve .last .1 .1 .1 .1 .0
 
 -- one state further down, whatever the flag is then
-further : (c : Looked) (now : Bool) → (now ≡ false → (loop-of c .loop .changed ≡ false) × (improved-of c .improve .result ≡ false))
-    → (now ≡ true → (loop-of c .loop .changed ≡ true) ⊎ (improved-of c .improve .result ≡ true))
+further : (c : Looked) (either : Bool) → (either ≡ false → (loop-of c .loop .changed ≡ false) × (improved-of c .improve .result ≡ false))
+    → (either ≡ true → (loop-of c .loop .changed ≡ true) ⊎ (improved-of c .improve .result ≡ true))
     → (goal : Condition) → Level (actions-of (loop-of c)) goal (start-of (loop-of c) .args .done) (start-of (loop-of c) .args .row .now)
-    → SweptTo (actions-of (loop-of c)) goal (start-of (loop-of c) .args .done) (loop-of c .loop .s - 1) (start-of (loop-of c) .args .row .now) (row-after c) now
-further c now quiet moved goal L =
+    → SweptTo (actions-of (loop-of c)) goal (start-of (loop-of c) .args .done) (loop-of c .loop .s - 1) (start-of (loop-of c) .args .row .now) (row-after c) either
+further c either quiet moved goal L =
     let l = loop-of c in
     let S = l .loop .inv .2 goal L in
-    sweep-further (actions-of l) goal _ (l .loop .s - 1) (l .loop .s) (omega (arith, improved-of c .before .before .loop-test .taken)) _ _ _ _ _ now S
+    sweep-further (actions-of l) goal _ (l .loop .s - 1) (l .loop .s) (omega (arith, improved-of c .before .before .loop-test .taken)) _ _ _ _ _ either S
     (improved-of c .improve .ensures goal (S .level)) quiet moved
 
 -- ---- the answers

@@ -10,7 +10,7 @@ use Rattle.table.specs.Table.{Table}
 use Rattle.table.specs.Read.{readTable, headerOf, headed, tableReadOf}
 use Rattle.table.specs.ReadLaws.{headed-sound, headed-refused}
 use Rattle.distances.specs.Measure.{measuredOf, checkedRow}
-use Rattle.distances.specs.MeasureLaws.{row-told, measures-table-bad, measures-row-bad, measures-all}
+use Rattle.distances.specs.MeasureLaws.{row-fits, measures-table-bad, measures-row-bad, measures-all}
 use Rattle.distances.proofs.measure.Statement.{statement}
 use Rattle.distances.proofs.measure.Tie as tie
 
@@ -76,7 +76,7 @@ enum-told c = search needs
 measure-table-requires : tie.Need-measure-table-requires
 measure-table-requires c κs =
     let k = checked-of (c .before) in
-    let (few, size, states) = row-told _ _ _ (told (c .before)) in
+    let (few, size, states) = row-fits _ _ _ (told (c .before)) in
     let same = ap (λ (h : Header). h .facts) (table-of k .2) in
     (header-is k, rw same at few, rw same at size)
 

@@ -1,4 +1,4 @@
--- `distance_steps::nearest` meets its contract. The loop's invariant: the least of the actions passed. The measure is the actions left.
+-- `distance_steps::least_ahead` meets its contract. The loop's invariant: the least of the actions passed. The measure is the actions left.
 -- Assumes nothing.
 use Prim.Native.Nat.{_+_, _-_, _≤_, _<_}
 use native.Mathlib.Omega.{arith}
@@ -9,9 +9,9 @@ use lib.ListN.{length}
 use Rattle.planning.specs.Facts.{Actions}
 use Rattle.expander.specs.Expands.{actionsOf}
 use Rattle.distance_steps.specs.Steps.{LeastBelow}
-use Rattle.distance_steps.specs.NearestLaws.{least-begun, least-kept, least-taken, least-whole, least-at-once, fits-count}
-use Rattle.distance_steps.proofs.nearest.Statement.{statement}
-use Rattle.distance_steps.proofs.nearest.Tie as tie
+use Rattle.distance_steps.specs.AheadLaws.{least-begun, least-kept, least-taken, least-whole, least-at-once, masks-count}
+use Rattle.distance_steps.proofs.least_ahead.Statement.{statement}
+use Rattle.distance_steps.proofs.least_ahead.Tie as tie
 
 abbrev Inv-loop : tie.InvT-loop
 Inv-loop needs absent adds deletes row s floor best₀ a₀ best a = (a ≤ length needs) × LeastBelow (actionsOf needs absent adds deletes) row s a best
@@ -31,7 +31,7 @@ abbrev actions-of : Loop → Actions
 actions-of c = let a = start-of c .args in actionsOf (a .needs .now) (a .absent .now) (a .adds .now) (a .deletes .now)
 
 count-is : (c : Loop) → actions-of c .count ≡ length (start-of c .args .needs .now)
-count-is c = fits-count (start-of c .pre .0)
+count-is c = masks-count (start-of c .pre .0)
 
 -- an action was asked
 abbrev Asked : Type 0
@@ -79,7 +79,7 @@ returns-2 c =
     let l = c .before in
     λ goal none. least-whole (actions-of l) _ _ goal (l .loop .a) _ (omega (arith, count-is l, c .loop-test .left)) (l .loop .inv .1)
 
-pub nearest-spec : {M : Type 1} → statement M
-nearest-spec =
+pub least-ahead-spec : {M : Type 1} → statement M
+least-ahead-spec =
     tie.close
     (tie.spec Inv-loop μ-loop loop-holds label-after-requires returns add-a loop-less loop-again returns-2)

@@ -19,7 +19,7 @@ use Rattle.planning.specs.Facts.{Actions}
 use Rattle.expander.specs.Expands.{countOf, actionsOf}
 use Rattle.expander.specs.ExpandsLaws.{count-rows}
 use Rattle.distance_steps.specs.Distance.{noDistance}
-use Rattle.distance_steps.specs.Steps.{labelOf, Fits, labelAfter, LeastBelow, D, Nearest, NoNearer}
+use Rattle.distance_steps.specs.Steps.{labelOf, MasksFit, labelAfter, LeastBelow, D, LeastAhead, NoneBelow}
 
 -- ---- one action
 
@@ -70,35 +70,35 @@ module _ (A : Actions) (row : List ℕ) (s : ℕ) where
     can a t = (ltb→lt a (A .count) (and-left (ltb a (A .count)) _ t), met A row s a (and-right (ltb a (A .count)) _ t))
 
     -- an action that leads to a label is applicable
-    leads : (a : ℕ) → a < A .count → labelAfter A row s a < noDistance → T (D A goal .applicable a s) × (labelOf row (D A goal .result a s) ≡ labelAfter A row s a)
-    leads a inside h =
+    labelled-applicable : (a : ℕ) → a < A .count → labelAfter A row s a < noDistance → T (D A goal .applicable a s) × (labelOf row (D A goal .result a s) ≡ labelAfter A row s a)
+    labelled-applicable a inside h =
         let t = labelled-met A row s a h in
         (and-intro (ltb a (A .count)) _ (holds _ (lt-ltb a (A .count) inside)) t, sym (met A row s a t))
 
     -- all actions were looked at
-    pub least-whole : (n best : ℕ) → A .count ≤ n → LeastBelow A row s n best → Nearest A goal row s best
+    pub least-whole : (n best : ℕ) → A .count ≤ n → LeastBelow A row s n best → LeastAhead A goal row s best
     least-whole n best all L =
         record {
-          reached = λ h. let (a, inside, is) = L .reached h in let (t, same) = leads a inside (omega (arith, is)) in (a, t, same ∙ is);
+          reached = λ h. let (a, inside, is) = L .reached h in let (t, same) = labelled-applicable a inside (omega (arith, is)) in (a, t, same ∙ is);
           least = λ a t. let (inside, is) = can a t in omega (arith, is, L .least a (omega arith));
         }
 
     -- no action leads to less than `floor`, and one leads there
-    pub least-at-once : (a label floor : ℕ) → a < A .count → label ≡ labelAfter A row s a → label < noDistance → label ≤ floor → NoNearer A goal row s floor
-        → Nearest A goal row s floor
+    pub least-at-once : (a label floor : ℕ) → a < A .count → label ≡ labelAfter A row s a → label < noDistance → label ≤ floor → NoneBelow A goal row s floor
+        → LeastAhead A goal row s floor
     least-at-once a label floor inside is has low none =
-        let (t, same) = leads a inside (omega (arith, is)) in
+        let (t, same) = labelled-applicable a inside (omega (arith, is)) in
         let exact : label ≡ floor = omega (arith, is, same, none a t) in
         record { reached = λ h. (a, t, same ∙ sym is ∙ exact); least = none }
 
 -- ---- rows that fit
 
-module _ {needs absent adds deletes : List ℕ} {n : ℕ} (F : Fits needs absent adds deletes n) where
-  pub fits-count : actionsOf needs absent adds deletes .count ≡ length needs
-  fits-count = rw (F .as-adds, F .as-deletes) (count-rows (length needs) (F .few-actions))
+module _ {needs absent adds deletes : List ℕ} {n : ℕ} (F : MasksFit needs absent adds deletes n) where
+  pub masks-count : actionsOf needs absent adds deletes .count ≡ length needs
+  masks-count = rw (F .as-adds, F .as-deletes) (count-rows (length needs) (F .few-actions))
 
-  pub fits-stays : (goal : Condition) (a s : ℕ) → s < n → T (D (actionsOf needs absent adds deletes) goal .applicable a s)
+  pub masks-stay : (goal : Condition) (a s : ℕ) → s < n → T (D (actionsOf needs absent adds deletes) goal .applicable a s)
       → D (actionsOf needs absent adds deletes) goal .result a s < n
-  fits-stays goal a s h t =
+  masks-stay goal a s h t =
       let inside = ltb→lt a (actionsOf needs absent adds deletes .count) (and-left (ltb a (actionsOf needs absent adds deletes .count)) _ t) in
-      F .stays a s (omega (arith, fits-count)) h (and-right (ltb a (actionsOf needs absent adds deletes .count)) _ t)
+      F .stays a s (omega (arith, masks-count)) h (and-right (ltb a (actionsOf needs absent adds deletes .count)) _ t)
