@@ -1,12 +1,12 @@
--- Document 02, W13, on document 01's trailer and on the trailer with one fact less: the distances of their 32 and 16 states, by the held mask, and the
--- refusals in their order.
+-- Document 02, W13, on document 01's trailer and on the trailer with one fact less: the distances of their 32 and 16 states, by the held mask; those of a
+-- small table in which a job's deletes decide; and the answers, with the refusals in their order.
 -- Definitions only; DistanceComputed.antt shows that these are the rows and the answers that the contract of `measure` gives.
 use Prim.Native.Nat.{ℕ}
 use mathlib.Core.Path.{_≡_}
 use mathlib.Core.List.{List, [], _∷_, _++_}
 use lib.ListN.{take}
 use Rattle.base.specs.Bools.{if_then_else_}
-use Rattle.refusal.specs.Checked.{Checked, accepted, refused}
+use Rattle.refusal.specs.Checked.{accepted, refused}
 use Rattle.conditions.specs.declared.Condition.{Condition}
 use Rattle.conditions.specs.Condition.{satisfied}
 use Rattle.table.specs.Table.{Table, tableBytes}
@@ -43,7 +43,7 @@ deletingRow = 65535 ∷ 65535 ∷ 65535 ∷ 0 ∷ []
 abbrev pub bare : ℕ → List ℕ
 bare facts = tableBytes (record { facts = facts; jobs = []; goal = 0 })
 
-pub record RefusalsInOrder : Type 0 where
+pub record AnswersInOrder : Type 0 where
   pub trailer : measured trailerBytes 32 ≡ accepted 32
   pub one-fact-less : measured oneFactLessBytes 16 ≡ accepted 16
   -- the table's own stops come first, then 25, then 26

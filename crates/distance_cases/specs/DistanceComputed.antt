@@ -3,10 +3,9 @@
 -- Assumes nothing.
 use Prim.Native.Nat.{ℕ, zero, suc, _<_}
 use native.Mathlib.Omega.{arith}
-use mathlib.Core.Path.{_≡_, refl, sym, ap, _∙_}
-use mathlib.Core.Bool.{Bool, true, false, not}
+use mathlib.Core.Path.{_≡_, refl, sym, _∙_}
+use mathlib.Core.Bool.{true, false, not}
 use mathlib.Core.List.{List, [], _∷_}
-use mathlib.Core.Logic.{_⊎_, inl, inr, ⊎-elim}
 use lib.Dec.{T, T-not}
 use lib.ListN.{length, getD}
 use lib.Seq.{ext-getD}
@@ -35,7 +34,7 @@ use Rattle.distances.specs.Measure.{checkedRow, measured, Agrees, Measures}
 use Rattle.marked_cases.specs.Trailer.{trailer, trailerBytes}
 use Rattle.marked_cases.specs.OneFactLess.{oneFactLess, oneFactLessBytes}
 use Rattle.marked_cases.specs.Cases.{lists, all, whole, lessWhole}
-use Rattle.distance_cases.specs.DistanceCases.{firstDepth, trailerRow, oneFactLessRow, deleting, deletingRow, RefusalsInOrder}
+use Rattle.distance_cases.specs.DistanceCases.{firstDepth, trailerRow, oneFactLessRow, deleting, deletingRow, AnswersInOrder}
 
 -- ---- a number that agrees with a list is the depth of the first entry met
 
@@ -128,9 +127,9 @@ pub record DistancesComputed : Type 0 where
   pub trailer-row : (before after : List ℕ) (told : Checked ℕ) → length before ≡ 32 → Measures trailerBytes before after told → after ≡ trailerRow
   pub one-fact-less-row : (before after : List ℕ) (told : Checked ℕ) → length before ≡ 16 → Measures oneFactLessBytes before after told → after ≡ oneFactLessRow
   pub deleting-row : (before after : List ℕ) (told : Checked ℕ) → length before ≡ 4 → Measures (tableBytes deleting) before after told → after ≡ deletingRow
-  pub answers : RefusalsInOrder
+  pub answers : AnswersInOrder
 
-answers-computed : RefusalsInOrder
+answers-computed : AnswersInOrder
 unfolding checkedRow subset intersects union within widthOf commandAt fromBytes toBytes numberAt Read.readTable Read.readJobs Read.readGoal Read.readEnd Read.due jobAt
     validatedJob goalBytes jobsBytes tableBytes
 answers-computed =

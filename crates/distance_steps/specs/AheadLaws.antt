@@ -1,22 +1,22 @@
 -- Where the actions lead from a state, and the least of it.
 -- Assumes nothing.
-use mathlib.Core.Path.{_≡_, refl, sym, ap, _∙_}
-use mathlib.Core.Bool.{Bool, true, false, _&&_}
+use mathlib.Core.Path.{_≡_, sym, _∙_}
+use mathlib.Core.Bool.{Bool, true, false}
 use mathlib.Core.List.{List}
-use Prim.Native.Nat.{ℕ, suc, _+_, _≤_, _<_}
+use Prim.Native.Nat.{ℕ, _+_, _≤_, _<_}
 use native.Mathlib.Decide.{decLe}
 use native.Mathlib.Omega.{arith}
 use borrow.Author.Tests.{lt-ltb}
 use lib.Dec.{T, ltb, ltb→lt}
-use lib.ListN.{length, getD}
+use lib.ListN.{length}
 use Rattle.base.specs.Bools.{if_then_else_, and-intro, and-left, and-right, holds, is-true}
 use Rattle.reading.specs.Reading.{state}
 use Rattle.conditions.specs.declared.Condition.{Condition}
 use Rattle.conditions.specs.Condition.{satisfied, needed, applied}
-use Rattle.conditions.specs.OnReading.{applicable, finished}
+use Rattle.conditions.specs.OnReading.{applicable}
 use Rattle.conditions.specs.OnReadingLaws.{applicable-state}
 use Rattle.planning.specs.Facts.{Actions}
-use Rattle.expander.specs.Expands.{countOf, actionsOf}
+use Rattle.expander.specs.Expands.{actionsOf}
 use Rattle.expander.specs.ExpandsLaws.{count-rows}
 use Rattle.distance_steps.specs.Distance.{noDistance}
 use Rattle.distance_steps.specs.Steps.{labelOf, MasksFit, labelAfter, LeastBelow, D, LeastAhead, NoneBelow}

@@ -3,20 +3,20 @@
 -- labels then fall by at most 1 with each action, so that none is shorter than its first state's label. A sweep that changes a label gives a state more
 -- than the sweeps done, and labels are less than the states that have one (`small`): so there are no more sweeps than states.
 -- Assumes nothing.
-use mathlib.Core.Path.{_≡_, refl, sym, ap, _∙_}
+use mathlib.Core.Path.{_≡_, refl, _∙_}
 use mathlib.Core.Bool.{Bool, true, false, true≢false, false≢true}
 use mathlib.Core.List.{List, [], _∷_}
 use mathlib.Core.Logic.{_⊎_, ⊎-elim}
-use Prim.Native.Nat.{ℕ, zero, suc, _+_, _≤_, _<_}
+use Prim.Native.Nat.{ℕ, suc, _+_, _≤_, _<_}
 use native.Mathlib.Decide.{decLe, ℕ-discrete}
 use native.Mathlib.Omega.{arith}
 use lib.Dec.{T}
-use lib.ListN.{length, getD, set, length-set}
+use lib.ListN.{length, set, length-set}
 use lib.Seq.{getD-set-same, getD-set-other}
 use Rattle.base.specs.Bools.{if_then_else_, is-true}
 use Rattle.conditions.specs.declared.Condition.{Condition}
 use Rattle.conditions.specs.Condition.{satisfied}
-use Rattle.planning.specs.Sequence.{Reaches, Shortest}
+use Rattle.planning.specs.Sequence.{Reaches}
 use Rattle.planning.specs.Facts.{Actions}
 use Rattle.distance_steps.specs.Distance.{noDistance, Distance, fewest, none}
 use Rattle.distance_steps.specs.Steps.{labelOf, firstLabel, D, LeastAhead, NoneBelow}

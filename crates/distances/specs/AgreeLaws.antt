@@ -1,20 +1,19 @@
 -- The distances agree with the plan for the whole shift, and there is one row of them.
 -- Assumes nothing.
-use Prim.Native.Nat.{ℕ, _≤_, _<_}
+use Prim.Native.Nat.{ℕ}
 use native.Mathlib.Omega.{arith}
-use mathlib.Core.Path.{_≡_, refl, sym, ap, _∙_}
+use mathlib.Core.Path.{_≡_, sym, _∙_}
 use mathlib.Core.Bool.{Bool}
 use mathlib.Core.List.{List}
 use mathlib.Core.Logic.{_↔_}
-use lib.ListN.{length}
 use Rattle.conditions.specs.declared.Condition.{Condition}
 use Rattle.planning.specs.Domain.{Domain}
 use Rattle.planning.specs.Sequence.{Reaches}
-use Rattle.planning.specs.Expansion.{Entry, exhausted, expand, entryIn}
-use Rattle.planning.specs.Demand.{FirstIn, CoveredBy}
+use Rattle.planning.specs.Expansion.{Entry, exhausted, expand}
+use Rattle.planning.specs.Demand.{CoveredBy}
 use Rattle.planning.specs.Facts.{Actions, unitDomain, Separate}
 use Rattle.planning.specs.FactLaws.{fact-distance, fact-covered-iff}
-use Rattle.distance_steps.specs.Distance.{noDistance, Distance, fewest, none}
+use Rattle.distance_steps.specs.Distance.{Distance, fewest, none}
 use Rattle.distances.specs.Measure.{Agrees}
 
 -- a state has one distance

@@ -11,18 +11,16 @@ use lib.ListN.{length, getD, take, length-map}
 use lib.Pow.{pow-mono}
 use Rattle.base.specs.Bools.{if_then_else_}
 use Rattle.masks.specs.Laws.{within-lt, lt-within}
-use Rattle.refusal.specs.Checked.{Checked, accepted, refused, andThen}
+use Rattle.refusal.specs.Checked.{Checked, accepted, refused}
 use Rattle.refusal.specs.CheckedLaws.{not-both, accepted-same}
 use Rattle.numbers.specs.Numbers.{AreBytes}
-use Rattle.conditions.specs.declared.Action.{Action}
-use Rattle.conditions.specs.Condition.{plain, satisfied, needed, applied, actionAt}
+use Rattle.conditions.specs.Condition.{plain, applied}
 use Rattle.conditions.specs.ConditionLaws.{applied-within}
 use Rattle.job.specs.declared.Job.{Job}
 use Rattle.job.specs.Job.{actionOf}
 use Rattle.table.specs.declared.Header.{Header}
 use Rattle.table.specs.Table.{Table}
 use Rattle.table.specs.Read.{readTable, jobsOf, headed}
-use Rattle.table.specs.ReadLaws.{headed-sound}
 use Rattle.table.specs.RoundTripLaws.{read-sound}
 use Rattle.job_rows.specs.Rows.{loaded}
 use Rattle.job_rows.specs.RowLaws.{load-whole}

@@ -9,10 +9,9 @@ use lib.ListN.{length, getD, drop, length-map, List·getD-append, List·getD-map
 use lib.Seq.{ext-getD}
 use Rattle.base.specs.Lists.{getD-inside}
 use Rattle.refusal.specs.Checked.{Checked, accepted}
-use Rattle.conditions.specs.declared.Condition.{Condition}
 use Rattle.table.specs.Table.{Table}
 use Rattle.table.specs.Read.{readTable}
-use Rattle.planning.specs.Expansion.{Entry, root, entryIn}
+use Rattle.planning.specs.Expansion.{root}
 use Rattle.planning.specs.Demand.{FirstIn}
 use Rattle.expander.specs.Expands.{Columns, room, over}
 use Rattle.builder.specs.declared.Size.{Size}

@@ -1,6 +1,6 @@
 -- `distance_steps::first_label` meets its contract.
 -- Assumes nothing.
-use mathlib.Core.Path.{_≡_, sym, _∙_}
+use mathlib.Core.Path.{sym, _∙_}
 use borrow.Author.Needs.{needs}
 use Rattle.distance_steps.proofs.first_label.Statement.{statement}
 use Rattle.distance_steps.proofs.first_label.Tie as tie

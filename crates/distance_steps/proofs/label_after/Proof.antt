@@ -6,8 +6,7 @@ use borrow.Author.Needs.{needs}
 use Prim.Native.Nat.{ℕ, _<_}
 use lib.ListN.{length, getD}
 use Rattle.base.specs.Bools.{holds}
-use Rattle.conditions.specs.Condition.{actionAt, applied}
-use Rattle.conditions.specs.OnReading.{finished}
+use Rattle.conditions.specs.Condition.{applied}
 use Rattle.conditions.specs.OnReadingLaws.{applicable-state, finished-state}
 use Rattle.expander.specs.Expands.{actionsOf}
 use Rattle.planning.specs.Facts.{Actions}

@@ -1,12 +1,10 @@
 -- `distance_sweeps::improve` meets its contract: a final label is kept, and any other is held against the least that an action leads to.
 -- Assumes nothing.
-use Prim.Native.Nat.{ℕ, _+_, _≤_, _<_, suc}
+use Prim.Native.Nat.{ℕ, _≤_, _<_, suc}
 use native.Mathlib.Omega.{arith}
 use native.Mathlib.Numerals.{add-one}
-use mathlib.Core.Path.{_≡_}
 use mathlib.Core.List.{List}
 use borrow.Author.Needs.{needs}
-use lib.ListN.{length}
 use Rattle.conditions.specs.declared.Condition.{Condition}
 use Rattle.planning.specs.Facts.{Actions}
 use Rattle.expander.specs.Expands.{actionsOf}

@@ -1,6 +1,6 @@
 -- `distance_sweeps::sweep` meets its contract. The loop's invariant: the sweep came down to the state s. The measure is the states left.
 -- Assumes nothing.
-use Prim.Native.Nat.{ℕ, _-_, _≤_, _<_}
+use Prim.Native.Nat.{ℕ, _-_, _≤_}
 use native.Mathlib.Omega.{arith}
 use mathlib.Core.Path.{_≡_}
 use mathlib.Core.Bool.{Bool, true, false, true≢false}

@@ -1,16 +1,13 @@
 -- `distances::measure_table` meets its contract: the rows hold the table's jobs, so that the states' distances over them are those under the table.
 -- Assumes nothing.
 use native.Mathlib.Omega.{arith}
-use mathlib.Core.Path.{_≡_, sym}
+use mathlib.Core.Path.{sym}
 use Prim.Native.Nat.{_≤_}
-use lib.ListN.{length}
 use lib.Pow.{pow-pos}
 use lib.Seq.{length-take-le}
 use borrow.Author.Needs.{needs}
 use Rattle.numbers.specs.Numbers.{AreBytes}
-use Rattle.refusal.specs.Checked.{accepted}
-use Rattle.table.specs.Table.{Table}
-use Rattle.table.specs.Read.{readTable, jobsOf}
+use Rattle.table.specs.Read.{readTable}
 use Rattle.table.specs.ReadLaws.{headed-sound}
 use Rattle.builder.specs.RowLaws.{header-count, header-few}
 use Rattle.distances.specs.MeasureLaws.{fits-table, distances-table}
