@@ -1,1 +1,2 @@
 // No code: the tests and choices that the definitions of every crate are written with stand in specs/.
+#![tactic(auto)]

@@ -1,4 +1,5 @@
 // What is judged before a row of vehicles is ticked on a list: each reading, the list's length, and each of its entries (document 02, W4).
+#![tactic(auto)]
 ghost use Rattle.std.specs.Prelude.{◌≡◌, ◌≤◌, length};
 ghost use Rattle.refusal.specs.Checked.{checked_each};
 ghost use Rattle.planning.specs.Columns.{max_entries};
@@ -12,7 +13,7 @@ use refusal::{Reason, Refusal};
 use table::Header;
 use tree::Leaf;
 
-#[derive(Drop)]
+#[derive(Clone, Copy)]
 pub enum BatchChecked {
     Sound,
     Refused(Refusal),

@@ -1,4 +1,5 @@
 // The tick of a row of vehicles on one list (document 02, W4): what is lent is judged, then the list is walked once for all of them.
+#![tactic(auto)]
 ghost use Rattle.std.specs.Prelude.{◌≡◌, ◌≤◌, length};
 ghost use Rattle.flat.specs.TreeBytes.{tree_entries};
 ghost use Rattle.batch_walk.specs.Batch.{readings_of, answer_rows};
@@ -8,7 +9,7 @@ use batch_checks::BatchChecked;
 use refusal::Refusal;
 use table::{Header, TableRead};
 
-#[derive(Drop)]
+#[derive(Clone, Copy)]
 pub enum BatchTicked {
     // So many entries were read.
     Ticked(usize),

@@ -1,6 +1,7 @@
 // One walk over a list of entries for a row of vehicles (document 02, W4): each entry is fetched once, and asked of the vehicles that failed all
 // entries before it, but for those that are read to lack a fact of its first mask. A vehicle's answer so far stands in two lent rows; Failure is the
 // mark of one that goes on.
+#![tactic(auto)]
 ghost use Rattle.std.specs.Prelude.{◌≡◌, ◌≤◌, ◌<◌, length, get_or};
 ghost use Rattle.tree.specs.declared.Status.TheVariants.{Failure};
 ghost use Rattle.tree.specs.StatusNumbers.{status_number};
@@ -12,7 +13,7 @@ use conditions::{Condition, Evaluation};
 use reading::Reading;
 
 // A status and the job or mask that comes with it, as they stand in the rows of answers.
-#[derive(Drop)]
+#[derive(Clone, Copy)]
 pub struct Numbered {
     pub status: u8,
     pub value: u64,

@@ -1,5 +1,6 @@
 // The program of document 01, "A trailer on the hitch": plans from the table in `bay.tab` and the start in `start.bay`, and
 // prints the plan or the stop.
+#![tactic(auto)]
 use libc::STDOUT_FILENO;
 
 // FACTS and a JOB more than a table may have, all of the wider kind: no stop of a table lies further on, so the rest of a longer file is not read.

@@ -1,5 +1,6 @@
 // The list of a sound table's goal and its tree, put into lent tables: what every plan is made of (document 01, "Expansion", stops 10 to 12;
 // document 02, W10).
+#![tactic(auto)]
 ghost use Rattle.std.specs.Prelude.{◌≡◌, ◌≤◌, length};
 ghost use Rattle.refusal.specs.Checked.{accepted};
 ghost use Rattle.table.specs.Table.{Table};
@@ -16,14 +17,14 @@ use refusal::{Reason, Refusal};
 use table::Header;
 
 // The entries of a list and the bytes of its tree, and whether both hold second masks.
-#[derive(Drop)]
+#[derive(Clone, Copy)]
 pub struct Size {
     pub entries: usize,
     pub bytes: usize,
     pub paired: bool,
 }
 
-#[derive(Drop)]
+#[derive(Clone, Copy)]
 pub enum Built {
     // The list and its tree.
     Whole(Size),
@@ -80,7 +81,7 @@ fn expand_goal(
 }
 
 // A list that ended as was asked, with its number of entries.
-#[derive(Drop)]
+#[derive(Clone, Copy)]
 pub enum Listed {
     Entries(usize),
     Refused(Refusal),

@@ -1,5 +1,6 @@
 // The job card of a vehicle: its masks, its counts, what one more report makes of them, and the lateness that is read off it
 // (document 01, "Job card"). The calls on it, which begin with a table's checks, are in `card_calls`.
+#![tactic(auto)]
 ghost use Rattle.std.specs.Prelude.{◌≡◌, false, pos, ◌-ℤ◌};
 ghost use Rattle.card.specs.Card.{masks_of, new_card, with_masks, with_report, exhausted, booked, lateness_of, Updated};
 
@@ -16,7 +17,7 @@ pub const MAX_TAKEN: u32 = 65535;
 // The most that one report adds to the planned seconds: the longest job that a table may list.
 pub const MAX_LISTED: u32 = job::MAX_SECONDS as u32;
 
-#[derive(Drop)]
+#[derive(Clone, Copy)]
 pub struct Card {
     pub held: u64,
     pub unread: u64,
@@ -25,14 +26,14 @@ pub struct Card {
     pub planned: u32,
 }
 
-#[derive(Drop)]
+#[derive(Clone, Copy)]
 pub enum CardAnswer {
     Done,
     Refused(Refusal),
 }
 
 // A card after a call, and the call's answer.
-#[derive(Drop)]
+#[derive(Clone, Copy)]
 pub struct CardStep {
     pub card: Card,
     pub answer: CardAnswer,

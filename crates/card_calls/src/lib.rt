@@ -1,6 +1,7 @@
 // The calls on a vehicle's job card under a table's bytes: opened with a reading, read again from outside, updated by the report of a
 // finished job, and ticked (document 01, "Job card"). Each takes the card by value and returns the next one; `card_lent` has them on a
 // card that is lent.
+#![tactic(auto)]
 ghost use Rattle.std.specs.Prelude.{◌≡◌};
 ghost use Rattle.table.specs.Read.{table_read_of, headed};
 ghost use Rattle.tick.specs.Answers.{Answers};
@@ -13,7 +14,7 @@ use table::{JobRead, TableRead};
 use tick::Ticked;
 
 // A report of a finished job: its number, and the seconds that it took.
-#[derive(Drop)]
+#[derive(Clone, Copy)]
 pub struct JobReport {
     pub job: usize,
     pub taken: u16,

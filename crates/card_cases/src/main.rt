@@ -1,5 +1,6 @@
 // Runs a vehicle's day on one job card, with every refusal, and prints the card and the answer after each call. What is printed is compared
 // with the file `stdout`, which an account of the papers made that shares no code with ours. The card is lent to each call of `card_lent`.
+#![tactic(auto)]
 ghost use Rattle.std.specs.Prelude.{◌≡◌, nat_abs};
 ghost use Rattle.card.specs.Card.{Updated};
 ghost use Rattle.card_calls.specs.Calls.{opened, outside_read, reported};

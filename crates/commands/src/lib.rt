@@ -1,10 +1,12 @@
 // The command bytes of tables and trees with the widths of their operands (document 01, "Commands"; document 02, W10 and W12). Every reader and writer takes
 // sizes and places of operands from here.
+#![tactic(auto)]
+
 ghost use Rattle.std.specs.Prelude.{◌≡◌};
 ghost use Rattle.commands.specs.Commands.{width_of, command_at};
 
 // A command byte and how many bytes its operands take.
-#[derive(Drop)]
+#[derive(Clone, Copy)]
 pub struct Command {
     pub byte: u8,
     pub width: usize,
@@ -163,7 +165,7 @@ const SECONDS_WIDTH: usize = 2;
 // The bytes of the adds, deletes and seconds.
 pub const EFFECTS_WIDTH: usize = MASK_WIDTH + MASK_WIDTH + SECONDS_WIDTH;
 
-#[derive(Drop)]
+#[derive(Clone, Copy)]
 pub enum Width {
     Bytes(usize),
     NoCommand,
@@ -191,7 +193,7 @@ pub fn width_of(byte: u8) -> Width
 }
 
 // What stands at an offset of a table or tree.
-#[derive(Drop)]
+#[derive(Clone, Copy)]
 pub enum Found {
     // The bytes end before it.
     Missing,

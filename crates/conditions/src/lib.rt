@@ -1,5 +1,7 @@
 // Conditions, and what actions do to states and to conditions: document 01, "Expansion", "Ticking" and "Job card"; document 02, W10. Nobody above
 // this crate and the table looks into an action or a condition. An action is document 01's job, without its seconds.
+#![tactic(auto)]
+
 ghost use Rattle.std.specs.Prelude.{◌≡◌, true, ◌-◌, ◌≤◌, length, get_or, set};
 ghost use Rattle.conditions.specs.Condition.{consistent, condition_within, satisfied, relevant, regressed, condition_at, action_at};
 ghost use Rattle.masks.specs.Sets.{others};
@@ -9,14 +11,14 @@ ghost use Rattle.conditions.specs.OnReading.{evaluated, applicable, finished};
 use reading::Reading;
 
 // The facts that are to hold, and those that are to be absent.
-#[derive(Drop)]
+#[derive(Clone, Copy)]
 pub struct Condition {
     pub present: u64,
     pub absent: u64,
 }
 
 // The facts that the action needs, those that it needs absent, and those that it adds and deletes.
-#[derive(Drop)]
+#[derive(Clone, Copy)]
 pub struct Action {
     pub needs: u64,
     pub absent: u64,
@@ -87,7 +89,7 @@ pub fn is_within(facts: u8, c: Condition) -> bool
 }
 
 // Where the search for a listed part of a condition ended: at an entry of the list, or at none.
-#[derive(Drop)]
+#[derive(Clone, Copy)]
 pub enum Found {
     At(usize),
     Nowhere,
@@ -186,7 +188,7 @@ pub fn regress(a: Action, c: Condition) -> Condition
 // ---- on a reading
 
 // What a reading says of a condition.
-#[derive(Drop)]
+#[derive(Clone, Copy)]
 pub enum Evaluation {
     Met,
     Missed,

@@ -1,4 +1,5 @@
 // The distances of all states of a table (document 02, W13).
+#![tactic(auto)]
 ghost use Rattle.std.specs.Prelude.{◌≡◌, ◌≤◌, ◌^◌, length};
 ghost use Rattle.refusal.specs.Checked.{accepted};
 ghost use Rattle.conditions.specs.Condition.{plain};
@@ -12,7 +13,7 @@ use refusal::{Reason, Refusal};
 use table::{Header, TableRead};
 
 // How many states have their distance in the row, or why none has.
-#[derive(Drop)]
+#[derive(Clone, Copy)]
 pub enum Measured {
     States(usize),
     Refused(Refusal),

@@ -1,5 +1,6 @@
 // The expansion of a goal into the list of conditions from which actions lead to it (document 01, "Expansion"; document 02, W10), over rows of the
 // actions' masks and five lent list tables. An action is document 01's job.
+#![tactic(auto)]
 ghost use Rattle.std.specs.Prelude.{◌≡◌, ltb, length};
 ghost use Rattle.conditions.specs.Condition.{plain};
 ghost use Rattle.expander.specs.Expands.{count_of, actions_of, columns, capacity_of, ended_by, if_paired, Unlent, Expands};
@@ -7,7 +8,7 @@ ghost use Rattle.expander.specs.Expands.{count_of, actions_of, columns, capacity
 use conditions::{Condition, Found};
 
 // What ends the list, besides its capacity.
-#[derive(Drop)]
+#[derive(Clone, Copy)]
 pub enum Until {
     // A condition that this start meets.
     Covers(u64),
@@ -16,7 +17,7 @@ pub enum Until {
 }
 
 // How the list ended, with the number of entries stored. `expanded_of` gives the papers' numbers.
-#[derive(Drop)]
+#[derive(Clone, Copy)]
 pub enum Expanded {
     // Every entry is expanded, and none ended the list.
     Exhausted(usize),

@@ -1,5 +1,7 @@
 // The facts of one table as facts of another, by a map with a byte for each old fact: its new number, or 255 where it is dropped (document 02, W14).
 // Stop 27, and what a reading under the old table is under the new one.
+#![tactic(auto)]
+
 ghost use Rattle.std.specs.Prelude.{◌≡◌, ◌≤◌};
 ghost use Rattle.reading.specs.Reading.{reading_of};
 ghost use Rattle.fact_map.specs.FactMap.{mapped_reading};
@@ -12,7 +14,7 @@ use refusal::{Reason, Refusal};
 pub const DROPPED: u8 = 255;
 
 // The facts that others are sent to, or why a map is none.
-#[derive(Drop)]
+#[derive(Clone, Copy)]
 pub enum MapChecked {
     Sound(u64),
     Refused(Refusal),

@@ -1,10 +1,11 @@
 // A file read into a lent buffer, as far as the buffer has room.
+#![tactic(auto)]
 ghost use Rattle.std.specs.Prelude.{◌≡◌, ◌≤◌, length};
 ghost use Rattle.io.specs.Counts.{IsPrefixLen};
 ghost use Rattle.file_reading.specs.Reads.{after_read, ReadMore};
 
 // How far a file is read.
-#[derive(Drop)]
+#[derive(Clone, Copy)]
 pub enum Progress {
     // So many bytes of it, and more may follow.
     Going(usize),

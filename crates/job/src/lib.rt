@@ -1,4 +1,5 @@
 // One job of a table: read from its bytes, and validated (document 01, "Commands" and stops 5 and 6; document 02, W3, 19, and W10, 22).
+#![tactic(auto)]
 ghost use Rattle.std.specs.Prelude.{◌≡◌, ◌+◌, ◌≤◌, length};
 ghost use Rattle.commands.specs.Commands.{ADDS-AT, EFFECTS-WIDTH};
 ghost use Rattle.job.specs.Job.{action_of, command_by, job_size, job_with, job_from, past_job_of};
@@ -9,7 +10,7 @@ use refusal::{Reason, Refusal};
 
 // Document 01's job: the facts that it needs, those that it needs absent, those that it adds and deletes, the seconds that it is listed with, and
 // whether its command is the one with absent facts.
-#[derive(Drop)]
+#[derive(Clone, Copy)]
 pub struct Job {
     pub needs: u64,
     pub absent: u64,
@@ -52,7 +53,7 @@ pub fn size_of(job: Job) -> usize
 }
 
 // A job that was read, and the offset past it.
-#[derive(Drop)]
+#[derive(Clone, Copy)]
 pub struct PastJob {
     pub job: Job,
     pub next: usize,
@@ -99,7 +100,7 @@ pub fn job_from(s: &[u8], at: usize) -> PastJob
 pub const MAX_SECONDS: u16 = 5_400;
 
 // What the checks of a job, or of a whole table, come to.
-#[derive(Drop)]
+#[derive(Clone, Copy)]
 pub enum Validated {
     Sound,
     Refused(Refusal),

@@ -1,10 +1,12 @@
 // The licences of two fitters at one vehicle: which of them a job belongs to, and stop 24 (document 02, W12).
+#![tactic(auto)]
+
 ghost use Rattle.std.specs.Prelude.{◌≡◌, eqb, get_or};
 ghost use Rattle.licences.specs.Licences.{FIRST, is_licence, checked_licences, licences_of, owns};
 
 use refusal::{Reason, Refusal};
 
-#[derive(Drop)]
+#[derive(Clone, Copy)]
 pub enum Fitter {
     First,
     Second,
@@ -17,7 +19,7 @@ const SECOND: u8 = 2;
 
 const BOTH: u8 = 3;
 
-#[derive(Drop)]
+#[derive(Clone, Copy)]
 pub enum LicencesChecked {
     Sound,
     Refused(Refusal),

@@ -1,4 +1,6 @@
 // Sets of facts in a 64-bit mask: bit i stands for fact i (document 01).
+#![tactic(auto, unfolding(crate::specs::Sets::subset, crate::specs::Sets::intersects, crate::specs::Sets::union, crate::specs::Sets::difference, crate::specs::Sets::others))]
+
 ghost use Rattle.std.specs.Prelude.{◌≡◌};
 ghost use Rattle.masks.specs.Sets.{subset, intersects, union, difference, others, within};
 

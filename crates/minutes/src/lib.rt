@@ -1,4 +1,6 @@
 // Seconds in whole minutes: one rule for the time of a way and for the lateness on a job card (document 01, "Job card"; document 02, W1).
+#![tactic(auto)]
+
 ghost use Rattle.std.specs.Prelude.{◌≡◌};
 ghost use Rattle.minutes.specs.Minutes.{nearest, minutes_of};
 

@@ -1,5 +1,7 @@
 // Numbers of two and eight bytes at an offset, least byte first, read and written (document 01, "Masks are unsigned 64-bit, least byte
 // first" and "Two-byte numbers have the least byte first").
+#![tactic(auto)]
+
 ghost use Rattle.std.specs.Prelude.{◌≡◌, ◌+◌, ◌≤◌, ◌<◌, min, length};
 ghost use Rattle.std.proofs.lemmas.List.Edits.{sets};
 ghost use Rattle.numbers.specs.Numbers.{to_bytes, number_at};

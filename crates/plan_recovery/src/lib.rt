@@ -1,6 +1,7 @@
 // From the bytes of a tree back to the list that they were written from (document 02, W7). Only one plan can have written them: the one for the last
 // condition that the tree shows, as the start. It is planned into tables that no caller sees, the bytes of its tree are compared, and only then is anything
 // written that is lent.
+#![tactic(auto)]
 ghost use Rattle.std.specs.Prelude.{◌≡◌, false, []};
 ghost use Rattle.refusal.specs.Checked.{accepted, and_then};
 ghost use Rattle.table.specs.Table.{Table};

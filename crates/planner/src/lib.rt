@@ -1,5 +1,6 @@
 // The plan for a vehicle: from a table's bytes and a start reading, the list of conditions, its tree, and the way with its time (document 01,
 // "Expansion" and "Job card", the table's stops and 8 to 12; document 02, W5 and W10).
+#![tactic(auto)]
 ghost use Rattle.std.specs.Prelude.{◌≡◌, suc, ◌-◌, length};
 ghost use Rattle.refusal.specs.Checked.{accepted};
 ghost use Rattle.table.specs.Read.{read_table, jobs_of, headed, table_read_of};
@@ -18,7 +19,7 @@ use table::{Header, TableRead};
 
 // What a plan gives besides its list and tree. The jobs and the minutes are those of the way from the start; `paired` where list and tree hold second
 // masks.
-#[derive(Drop)]
+#[derive(Clone, Copy)]
 pub struct Summary {
     pub entries: usize,
     pub bytes: usize,
@@ -27,7 +28,7 @@ pub struct Summary {
     pub paired: bool,
 }
 
-#[derive(Drop)]
+#[derive(Clone, Copy)]
 pub enum Planned {
     Built(Summary),
     Refused(Refusal),

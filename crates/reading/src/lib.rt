@@ -1,17 +1,19 @@
 // A reading of a vehicle: the facts that were read and hold, and those that were not read (document 01, "Commands"), and its stops 8 and 9.
+#![tactic(auto)]
+
 ghost use Rattle.std.specs.Prelude.{◌≡◌};
 ghost use Rattle.reading.specs.Reading.{sound, checked_at, checked_start, reading_of};
 
 use refusal::{Reason, Refusal};
 
 // A fact in neither mask was read and is absent.
-#[derive(Drop)]
+#[derive(Clone, Copy)]
 pub struct Reading {
     pub held: u64,
     pub unread: u64,
 }
 
-#[derive(Drop)]
+#[derive(Clone, Copy)]
 pub enum ReadingChecked {
     Sound(Reading),
     Refused(Refusal),

@@ -1,9 +1,11 @@
 // Why a call is refused, and where: document 01, "Stops, in checking order", and document 02's stops as they land. Every entry
 // point of the planner refuses with one of these reasons; its number is the papers', its place is what they fix for it.
+#![tactic(auto)]
+
 ghost use Rattle.std.specs.Prelude.{◌≡◌};
 ghost use Rattle.refusal.specs.Numbers.{number_of};
 
-#[derive(Drop)]
+#[derive(Clone, Copy)]
 pub enum Reason {
     // The table ends where a command or operand is due.
     TableCut,
@@ -57,7 +59,7 @@ pub enum Reason {
     BadMap,
 }
 
-#[derive(Drop)]
+#[derive(Clone, Copy)]
 pub struct Refusal {
     pub reason: Reason,
     pub place: usize,

@@ -1,5 +1,6 @@
 // The job table, read from bytes, with every check that the papers make of a table (document 01, "Commands" and "Stops, in
 // checking order", 1 to 7; document 02, W3, 19, and W10, 22).
+#![tactic(auto)]
 ghost use Rattle.std.specs.Prelude.{◌≡◌, ◌+◌, ◌≤◌, ◌<◌, length, get_or, ◌||◌, List, []};
 ghost use Rattle.refusal.specs.Checked.{accepted, and_then};
 ghost use Rattle.commands.specs.Commands.{GOAL-SIZE};
@@ -17,7 +18,7 @@ pub const MAX_FACTS: usize = 64;
 pub const MAX_JOBS: usize = 128;
 
 // What a sound table says besides its jobs; `paired` where one of them has the command with absent facts.
-#[derive(Drop)]
+#[derive(Clone, Copy)]
 pub struct Header {
     pub facts: u8,
     pub jobs: usize,
@@ -25,14 +26,14 @@ pub struct Header {
     pub paired: bool,
 }
 
-#[derive(Drop)]
+#[derive(Clone, Copy)]
 pub enum TableRead {
     Sound(Header),
     Refused(Refusal),
 }
 
 // Where in a table a command stands.
-#[derive(Drop)]
+#[derive(Clone, Copy)]
 pub enum Stage {
     // FACTS is due.
     First,
@@ -43,7 +44,7 @@ pub enum Stage {
 }
 
 // A command that may stand there, with the offset past its operands.
-#[derive(Drop)]
+#[derive(Clone, Copy)]
 pub enum Due {
     Command(u8, usize),
     Refused(Refusal),
@@ -223,7 +224,7 @@ fn job_at(table: &[u8], index: usize) -> Job
     past.job
 }
 
-#[derive(Drop)]
+#[derive(Clone, Copy)]
 pub enum JobRead {
     Named(Job),
     Refused(Refusal),

@@ -1,5 +1,6 @@
 // Runs the table writer and reader over document 01's trailer table, over one of both kinds of jobs (document 02, W10) and over damaged copies
 // of both, and prints what they answer. What is printed is compared with the file `stdout`, which an account of the papers made that shares no code with ours.
+#![tactic(auto)]
 use job::Job;
 use libc::STDOUT_FILENO;
 use refusal::Refusal;

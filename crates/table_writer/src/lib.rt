@@ -1,5 +1,6 @@
 // The table writer: a table, given by its number of facts, the columns of its jobs and its goal, to bytes in a lent slice (document 01, "Commands";
 // document 02, W10).
+#![tactic(auto)]
 ghost use Rattle.std.specs.Prelude.{◌≡◌, ◌+◌, ◌≤◌, ◌<◌, true, length};
 ghost use Rattle.std.proofs.lemmas.List.Edits.{sets};
 ghost use Rattle.commands.specs.Commands.{FACTS-SIZE, GOAL-SIZE, END-OF-TABLE-SIZE, EFFECTS-WIDTH};
@@ -14,7 +15,7 @@ use refusal::{Reason, Refusal};
 // GOAL and END, with which every table closes.
 const CLOSING_SIZE: usize = commands::GOAL_SIZE + commands::END_OF_TABLE_SIZE;
 
-#[derive(Drop)]
+#[derive(Clone, Copy)]
 pub enum TableWritten {
     // So many bytes, from the beginning of the lent slice.
     Written(usize),
@@ -65,7 +66,7 @@ fn is_writable(command: u8, absent: u64) -> bool
 }
 
 // A row of the columns.
-#[derive(Drop)]
+#[derive(Clone, Copy)]
 pub enum FoundRow {
     At(usize),
     Nowhere,
@@ -110,7 +111,7 @@ fn row_at(
 }
 
 // What the checks of a table come to.
-#[derive(Drop)]
+#[derive(Clone, Copy)]
 pub enum TableValidated {
     // GOAL stands at this offset.
     Sound(usize),

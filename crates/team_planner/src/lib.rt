@@ -1,4 +1,5 @@
 // The plan for two fitters at one vehicle: one list for the team, and a tree for each (document 02, W12).
+#![tactic(auto)]
 ghost use Rattle.std.specs.Prelude.{◌≡◌, List, ℕ, ◌≤◌, length};
 ghost use Rattle.table.specs.Read.{headed, table_read_of};
 ghost use Rattle.tree.specs.ReadTree.{max_children};
@@ -16,7 +17,7 @@ use refusal::{Reason, Refusal};
 use table::TableRead;
 
 // The entries of a list and the bytes of both fitters' trees, and whether all hold second masks.
-#[derive(Drop)]
+#[derive(Clone, Copy)]
 pub struct TeamSize {
     pub entries: usize,
     pub first: usize,
@@ -24,7 +25,7 @@ pub struct TeamSize {
     pub paired: bool,
 }
 
-#[derive(Drop)]
+#[derive(Clone, Copy)]
 pub enum TeamPlanned {
     Built(TeamSize),
     Refused(Refusal),

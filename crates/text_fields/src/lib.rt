@@ -1,6 +1,7 @@
 // The fields of a printed line, put into a lent slice: bytes, decimal numbers and masks (document 01, "A trailer on the hitch").
 // Each `put` stores from an offset on and answers where the next one goes. What has no room is dropped, and an offset past the
 // end is the end.
+#![tactic(auto)]
 ghost use Rattle.std.specs.Prelude.{◌≡◌, [], ◌∷◌, ℕ, suc, ◌^◌, ◌≤◌, ◌<◌, min};
 ghost use Rattle.text_fields.specs.Fields.{digit, digits, decimal, mask_text};
 ghost use Rattle.text_fields.specs.Puts.{Put, Highest};

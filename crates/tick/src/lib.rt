@@ -1,5 +1,6 @@
 // The tick of a tree's bytes on a reading: the walk over its nodes, then END, and the answer (document 01, "Ticking" and "Stops, in checking order";
 // document 02, W12).
+#![tactic(auto)]
 ghost use Rattle.std.specs.Prelude.{◌≡◌};
 ghost use Rattle.tree.specs.Tree.{Tree};
 ghost use Rattle.tree.specs.ReadTree.{read_end, read_tree};
@@ -20,7 +21,7 @@ pub const ROWS: [[bool; 4]; 2] = [[false, true, false, false], [true, false, fal
 const MAX_TREE_BYTES: usize = 65_535;
 
 // Waiting is document 02's Running that names no job.
-#[derive(Drop)]
+#[derive(Clone, Copy)]
 pub enum Ticked {
     Success,
     Failure,

@@ -1,5 +1,6 @@
 // One walk over the bytes of a tree checks every node and, while the answer is open, ticks it (document 01, "Ticking", and 13 to 15 of "Stops, in
 // checking order"; document 02, W12).
+#![tactic(auto)]
 ghost use Rattle.std.specs.Prelude.{◌≡◌, true, ◌<◌};
 ghost use Rattle.refusal.specs.Checked.{accepted};
 ghost use Rattle.tree.specs.ReadTree.{branch, node_at};
@@ -34,7 +35,7 @@ fn status_index(status: Status) -> usize
 }
 
 // What a tree is checked and ticked against.
-#[derive(Drop)]
+#[derive(Clone, Copy)]
 pub struct Context {
     pub facts: u8,
     pub jobs: usize,
@@ -42,7 +43,7 @@ pub struct Context {
 }
 
 // The answer and the offset past what was walked over, or the first stop met.
-#[derive(Drop)]
+#[derive(Clone, Copy)]
 pub enum Walk {
     Passed(Status, usize),
     Refused(Refusal),

@@ -1,5 +1,6 @@
 // Behaviour trees in bytes: a node's command with its operands, with what stop 13 asks of a node by itself, and what a leaf answers (document 01,
 // "Commands", "Ticking" and "Stops, in checking order"; document 02, W10 and W12).
+#![tactic(auto)]
 ghost use Rattle.std.specs.Prelude.{◌≡◌, ◌+◌, ◌<◌, ltb, length, get_or};
 ghost use Rattle.commands.specs.Commands.{CONDITION, PAIR, JOB-LEAF};
 ghost use Rattle.tree.specs.ReadTree.{kind_byte, node_at, node_read_of, in_range};
@@ -9,7 +10,7 @@ use conditions::{Condition, Evaluation};
 use reading::Reading;
 
 // A node with children.
-#[derive(Drop)]
+#[derive(Clone, Copy)]
 pub enum Kind {
     Fallback,
     Sequence,
@@ -17,7 +18,7 @@ pub enum Kind {
 
 // A node without children: a condition, document 01's JOB leaf with the job's number, which the field calls an action, or document 02's waiting leaf,
 // where another fitter has a job to do.
-#[derive(Drop)]
+#[derive(Clone, Copy)]
 pub enum Leaf {
     Condition(Condition),
     Action(u8),
@@ -25,7 +26,7 @@ pub enum Leaf {
 }
 
 // What a node answers; Running names the action, Unsettled the unread facts. Waiting is document 02's Running that names no job.
-#[derive(Drop)]
+#[derive(Clone, Copy)]
 pub enum Status {
     Success,
     Failure,
@@ -40,7 +41,7 @@ const MAX_CHILDREN: usize = 4_096;
 const BRANCH_SIZE: usize = commands::FALLBACK_SIZE;
 
 // What stands at an offset.
-#[derive(Drop)]
+#[derive(Clone, Copy)]
 pub enum NodeRead {
     // A node with so many children, and the offset past its operand.
     Branch(Kind, usize, usize),

@@ -1,0 +1,78 @@
+-- `commands::width_of` meets its contract: each byte has its width in the table, and a byte that is none of them has no command.
+use mathlib.Core.Path.{◌≡◌, sym}
+use mathlib.Core.Bool.{false}
+use Prim.Native.Nat.{ℕ}
+use borrow.Author.Tests.{ne_eqb}
+use lib.Dec.{eqb}
+use Rattle.commands.specs.Commands.{FACTS, JOB, PAIREDJOB, GOAL, ENDOFTABLE, FALLBACK, SEQUENCE, CONDITION, JOBLEAF, PAIR, WAITING, ENDOFTREE, width_of}
+use Rattle.commands.proofs.width_of.Goals as goal
+
+pub returns-in-16 : goal.returns-in-16
+unfolding width_of
+returns-in-16 c = rw c.in_default.keys1
+
+pub returns-in-32 : goal.returns-in-32
+unfolding width_of
+returns-in-32 c = rw c.in_default.keys2
+
+pub returns-in-48 : goal.returns-in-48
+unfolding width_of
+returns-in-48 c = rw c.in_default.keys3
+
+pub returns-in-63 : goal.returns-in-63
+unfolding width_of
+returns-in-63 c = rw c.in_default.keys4
+
+pub returns-in-65 : goal.returns-in-65
+unfolding width_of
+returns-in-65 c = rw c.in_default.keys5
+
+pub returns-in-66 : goal.returns-in-66
+unfolding width_of
+returns-in-66 c = rw c.in_default.keys6
+
+pub returns-in-67 : goal.returns-in-67
+unfolding width_of
+returns-in-67 c = rw c.in_default.keys7
+
+pub returns-in-68 : goal.returns-in-68
+unfolding width_of
+returns-in-68 c = rw c.in_default.keys8
+
+pub returns-in-79 : goal.returns-in-79
+unfolding width_of
+returns-in-79 c = rw c.in_default.keys9
+
+pub returns-in-33 : goal.returns-in-33
+unfolding width_of
+returns-in-33 c = rw c.in_default.keys10
+
+pub returns-in-69 : goal.returns-in-69
+unfolding width_of
+returns-in-69 c = rw c.in_default.keys11
+
+pub returns-in-70 : goal.returns-in-70
+unfolding width_of
+returns-in-70 c = rw c.in_default.keys12
+
+another : {b : ℕ} (k : ℕ) → (b ≡ k → ⊥) → eqb k b ≡ false
+another {b} k n = ne_eqb k b (λ e. n (sym e))
+
+pub returns-in_default : goal.returns-in_default
+unfolding width_of
+returns-in_default c =
+    let r = c.in_default.rest in
+    rw (
+      another FACTS r.0.0.0.0.0.0.0.0.0.0.0.1,
+      another JOB r.0.0.0.0.0.0.0.0.0.0.1,
+      another GOAL r.0.0.0.0.0.0.0.0.0.1,
+      another ENDOFTABLE r.0.0.0.0.0.0.0.0.1,
+      another FALLBACK r.0.0.0.0.0.0.0.1,
+      another SEQUENCE r.0.0.0.0.0.0.1,
+      another CONDITION r.0.0.0.0.0.1,
+      another JOBLEAF r.0.0.0.0.1,
+      another ENDOFTREE r.0.0.0.1,
+      another PAIREDJOB r.0.0.1,
+      another PAIR r.0.1,
+      another WAITING r.1,
+    )

@@ -1,0 +1,7 @@
+use mathlib.Core.Path.{sym}
+use borrow.Author.Rules.{rules}
+use lib.ListN.{get_or-eq_default}
+use Rattle.conditions.proofs.mask_at.Goals as goal
+
+pub returns : goal.returns
+returns c = sym (get_or-eq_default c.before.before.args.column.now 0 {n = c.before.before.args.i} c.before.if-i-column.false)

@@ -1,0 +1,36 @@
+-- `conditions::past_others` meets its contract: all that was passed has a fact that is not the mask's.
+use mathlib.Core.Path.{◌≡◌}
+use Prim.Native.Nat.{ℕ, ◌≤◌}
+use native.Mathlib.Decide.{dec_le}
+use native.Mathlib.Omega.{arith}
+use borrow.Author.Rules.{rules}
+use borrow.Author.Tests.{not-false}
+use Rattle.conditions.specs.Search.{Sharing}
+use Rattle.conditions.proofs.past_others.Goals as goal
+
+pub loop-k-init : goal.loop-k-init
+loop-k-init c = (omega arith, λ i a b. absurd (omega arith))
+
+pub four_share-requires : goal.four_share-requires
+four_share-requires c = (omega arith, omega arith)
+
+pub returns-then-not-four_share : goal.returns-then-not-four_share
+returns-then-not-four_share c =
+    let l = c.before.before.before.before in
+    (l.loop-k.invariant.0, rw l.before.others-others.ensures at l.loop-k.invariant.1)
+
+pub loop-k-preserved : goal.loop-k-preserved
+loop-k-preserved c =
+    let l = c.before.before.before.before in (
+      omega (arith, l.loop-k.invariant.0),
+      λ i a b.
+          elim (dec_le l.loop-k.k i) [
+            | yes p ↦ l.loop-k.invariant.1 i p b
+            | no p ↦ c.before.before.four_share.ensures (c.before.if-not-four_share.false) i a (omega arith)
+          ],
+    )
+
+pub returns : goal.returns
+returns c =
+    let l = c.before.before in
+    (l.loop-k.invariant.0, rw l.before.others-others.ensures at l.loop-k.invariant.1)
