@@ -1,5 +1,6 @@
 // What the bytes of a tree show of the list that they were written from (document 02, W7).
 #![tactic(auto)]
+
 ghost use Rattle.std.specs.Prelude.{◌≡◌, false, ◌≤◌, length};
 ghost use Rattle.table.specs.Read.{headed, table_read_of};
 ghost use Rattle.flat.specs.TreeBytes.{tree_size};
