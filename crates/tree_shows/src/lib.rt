@@ -59,6 +59,7 @@ pub fn entries_shown(paired: bool, size: usize) -> usize
 }
 
 // The mask of the last condition in the tree of n entries.
+#[tactic(auto, using(crate::specs::PartLaws::mask_there))]
 pub fn last_mask(tree: &[u8], n: usize) -> u64
     requires { (1 ≤ n) × (tree_size false n ≡ length tree.now) }
     ensures { result ≡ last_mask tree.now }
