@@ -1,5 +1,4 @@
 -- The checks of the table and of the card's masks, then the job's number; what is left is booked.
-use borrow.Author.Rules.{rules}
 use Prim.Native.Nat.{ℕ}
 use mathlib.Core.Path.{◌≡◌, sym, ap, ◌∙◌}
 use mathlib.Core.List.{List}

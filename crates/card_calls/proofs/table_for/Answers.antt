@@ -1,5 +1,4 @@
 -- The reader's answer stands, unless it is a table and the reading is not sound under it.
-use borrow.Author.Rules.{rules}
 use mathlib.Core.Path.{◌≡◌, sym, ap, ◌∙◌}
 use Rattle.refusal.specs.Checked.{accepted}
 use Rattle.reading.specs.Reading.{checked_at, reading_of}
