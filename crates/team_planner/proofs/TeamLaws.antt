@@ -163,7 +163,7 @@ module _ (licences : List ℕ) {t : Table} {start : ℕ} {before after : Columns
   unfolding team_plan
   team_built n e trees W =
       lists_finished (two_trees licences (pairs t) space) (pairs t) (BothAtFront lent trees) told (Covers start) (table_list (Covers start) t (room before)) before after
-      L.tables (held (used (pairs t) after) n) (L.List-held n e) (trees_held licences (pairs t) space after n lent trees told W)
+      L.tables (held (used (pairs t) after) n) (L.list_held n e) (trees_held licences (pairs t) space after n lent trees told W)
 
 -- nothing is written
 pub team_nothing : (n p : ℕ) (before : Columns) (lent : Fitter → List ℕ) (told : Checked TeamSize) → told ≡ refused n p
