@@ -66,6 +66,8 @@ def wanted(name):
     if name in APART:
         return APART[name]
     if DASH.search(name) and not name.startswith("-"):
+        if re.fullmatch(r"[A-Z][A-Z0-9-]+", name):
+            return name.replace("-", "_")
         if name[0].isupper():
             return re.sub(r"-(\w)", lambda m: m.group(1).upper(), name)
         name = re.sub(r"(?<=[\w'])-(?=[\w≤≡→])", "_", name)
@@ -172,7 +174,7 @@ def turn_source(text, known):
             return re.sub(r"`([^`\s]+)`", lambda k: "`" + (wanted(k.group(1)) if k.group(1) in known else k.group(1)) + "`", t)
         if t[0] == '"':
             return t
-        return wanted(t) if t in known and not t[0].isupper() else t
+        return wanted(t) if t in known and (not t[0].isupper() or t.isupper()) else t
     return re.sub(r"//[^\n]*|b?\"(?:[^\"\\]|\\.)*\"|[^\W\d][\w'-]*(?<!-)", one, text)
 
 

@@ -15,14 +15,14 @@ abbrev pub JOB : ℕ
 JOB = 0x20
 
 -- document 02, W10: "A second JOB command 0x21 has needs, absent, adds, deletes and seconds, 34 bytes."
-abbrev pub PAIREDJOB : ℕ
-PAIREDJOB = 0x21
+abbrev pub PAIRED_JOB : ℕ
+PAIRED_JOB = 0x21
 
 abbrev pub GOAL : ℕ
 GOAL = 0x30
 
-abbrev pub ENDOFTABLE : ℕ
-ENDOFTABLE = 0x3F
+abbrev pub END_OF_TABLE : ℕ
+END_OF_TABLE = 0x3F
 
 abbrev pub FALLBACK : ℕ
 FALLBACK = 0x41
@@ -33,8 +33,8 @@ SEQUENCE = 0x42
 abbrev pub CONDITION : ℕ
 CONDITION = 0x43
 
-abbrev pub JOBLEAF : ℕ
-JOBLEAF = 0x44
+abbrev pub JOB_LEAF : ℕ
+JOB_LEAF = 0x44
 
 -- document 02, W10: "The tree gets 0x45 with both masks"
 abbrev pub PAIR : ℕ
@@ -44,8 +44,8 @@ PAIR = 0x45
 abbrev pub WAITING : ℕ
 WAITING = 0x46
 
-abbrev pub ENDOFTREE : ℕ
-ENDOFTREE = 0x4F
+abbrev pub END_OF_TREE : ℕ
+END_OF_TREE = 0x4F
 
 -- the table: each command byte with the bytes that its operands take
 abbrev pub commands : List Command
@@ -53,13 +53,13 @@ commands =
     record { byte = FACTS; width = 1 }
     ∷ record { byte = JOB; width = 26 }
     ∷ record { byte = GOAL; width = 8 }
-    ∷ record { byte = ENDOFTABLE; width = 0 }
+    ∷ record { byte = END_OF_TABLE; width = 0 }
     ∷ record { byte = FALLBACK; width = 2 }
     ∷ record { byte = SEQUENCE; width = 2 }
     ∷ record { byte = CONDITION; width = 8 }
-    ∷ record { byte = JOBLEAF; width = 1 }
-    ∷ record { byte = ENDOFTREE; width = 0 }
-    ∷ record { byte = PAIREDJOB; width = 34 }
+    ∷ record { byte = JOB_LEAF; width = 1 }
+    ∷ record { byte = END_OF_TREE; width = 0 }
+    ∷ record { byte = PAIRED_JOB; width = 34 }
     ∷ record { byte = PAIR; width = 16 }
     ∷ record { byte = WAITING; width = 0 }
     ∷ []
@@ -69,65 +69,65 @@ abbrev pub size_in : List Command → ℕ → ℕ
 size_in [] byte = 0
 size_in (c ∷ cs) byte = if eqb c.byte byte then 1 + c.width else size_in cs byte
 
-abbrev pub FACTSSIZE : ℕ
-FACTSSIZE = size_in commands FACTS
+abbrev pub FACTS_SIZE : ℕ
+FACTS_SIZE = size_in commands FACTS
 
-abbrev pub JOBSIZE : ℕ
-JOBSIZE = size_in commands JOB
+abbrev pub JOB_SIZE : ℕ
+JOB_SIZE = size_in commands JOB
 
-abbrev pub GOALSIZE : ℕ
-GOALSIZE = size_in commands GOAL
+abbrev pub GOAL_SIZE : ℕ
+GOAL_SIZE = size_in commands GOAL
 
-abbrev pub ENDOFTABLESIZE : ℕ
-ENDOFTABLESIZE = size_in commands ENDOFTABLE
+abbrev pub END_OF_TABLE_SIZE : ℕ
+END_OF_TABLE_SIZE = size_in commands END_OF_TABLE
 
-abbrev pub FALLBACKSIZE : ℕ
-FALLBACKSIZE = size_in commands FALLBACK
+abbrev pub FALLBACK_SIZE : ℕ
+FALLBACK_SIZE = size_in commands FALLBACK
 
-abbrev pub SEQUENCESIZE : ℕ
-SEQUENCESIZE = size_in commands SEQUENCE
+abbrev pub SEQUENCE_SIZE : ℕ
+SEQUENCE_SIZE = size_in commands SEQUENCE
 
-abbrev pub CONDITIONSIZE : ℕ
-CONDITIONSIZE = size_in commands CONDITION
+abbrev pub CONDITION_SIZE : ℕ
+CONDITION_SIZE = size_in commands CONDITION
 
-abbrev pub JOBLEAFSIZE : ℕ
-JOBLEAFSIZE = size_in commands JOBLEAF
+abbrev pub JOB_LEAF_SIZE : ℕ
+JOB_LEAF_SIZE = size_in commands JOB_LEAF
 
-abbrev pub ENDOFTREESIZE : ℕ
-ENDOFTREESIZE = size_in commands ENDOFTREE
+abbrev pub END_OF_TREE_SIZE : ℕ
+END_OF_TREE_SIZE = size_in commands END_OF_TREE
 
-abbrev pub PAIREDJOBSIZE : ℕ
-PAIREDJOBSIZE = size_in commands PAIREDJOB
+abbrev pub PAIRED_JOB_SIZE : ℕ
+PAIRED_JOB_SIZE = size_in commands PAIRED_JOB
 
-abbrev pub PAIRSIZE : ℕ
-PAIRSIZE = size_in commands PAIR
+abbrev pub PAIR_SIZE : ℕ
+PAIR_SIZE = size_in commands PAIR
 
-abbrev pub WAITINGSIZE : ℕ
-WAITINGSIZE = size_in commands WAITING
+abbrev pub WAITING_SIZE : ℕ
+WAITING_SIZE = size_in commands WAITING
 
 -- where the first operand of a command stands, from its byte on
-abbrev pub OPERANDSAT : ℕ
-OPERANDSAT = 1
+abbrev pub OPERANDS_AT : ℕ
+OPERANDS_AT = 1
 
 -- "mask, 8"
-abbrev pub MASKWIDTH : ℕ
-MASKWIDTH = 8
+abbrev pub MASK_WIDTH : ℕ
+MASK_WIDTH = 8
 
 -- where the second mask of a PAIRED-JOB or a PAIR stands, from its byte on
-abbrev pub ABSENTAT : ℕ
-ABSENTAT = OPERANDSAT + MASKWIDTH
+abbrev pub ABSENT_AT : ℕ
+ABSENT_AT = OPERANDS_AT + MASK_WIDTH
 
 -- where the adds stand, from the command's byte on: of a JOB "needs, adds, deletes (8 bytes each), seconds (2 bytes)", of a PAIRED-JOB "needs,
 -- absent, adds, deletes and seconds"
-abbrev pub ADDSAT : ℕ
-ADDSAT = OPERANDSAT + MASKWIDTH
+abbrev pub ADDS_AT : ℕ
+ADDS_AT = OPERANDS_AT + MASK_WIDTH
 
-abbrev pub PAIREDADDSAT : ℕ
-PAIREDADDSAT = ABSENTAT + MASKWIDTH
+abbrev pub PAIRED_ADDS_AT : ℕ
+PAIRED_ADDS_AT = ABSENT_AT + MASK_WIDTH
 
 -- the bytes of the adds, deletes and seconds
-abbrev pub EFFECTSWIDTH : ℕ
-EFFECTSWIDTH = MASKWIDTH + MASKWIDTH + 2
+abbrev pub EFFECTS_WIDTH : ℕ
+EFFECTS_WIDTH = MASK_WIDTH + MASK_WIDTH + 2
 
 -- the width that a list of commands gives a byte
 abbrev pub width_in : List Command → ℕ → Width

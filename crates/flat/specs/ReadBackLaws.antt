@@ -15,7 +15,7 @@ use Rattle.masks.specs.Sets.{within}
 use Rattle.masks.specs.Laws.{within_word}
 use Rattle.refusal.specs.Checked.{accepted}
 use Rattle.commands.specs.declared.Found.TheVariants.{Whole}
-use Rattle.commands.specs.Commands.{CONDITION, PAIR, JOBLEAF, WAITING, ENDOFTREE, OPERANDSAT, ABSENTAT, MASKWIDTH, width_of, command_at}
+use Rattle.commands.specs.Commands.{CONDITION, PAIR, JOB_LEAF, WAITING, END_OF_TREE, OPERANDS_AT, ABSENT_AT, MASK_WIDTH, width_of, command_at}
 use Rattle.commands.specs.CommandLaws.{at_whole}
 use Rattle.numbers.specs.Numbers.{to_bytes, number_at}
 use Rattle.numbers.specs.NumberLaws.{from_to, read_drop}
@@ -63,15 +63,15 @@ module _ (s rest : List ℕ) (at : ℕ) where
   unfolding condition_bytes to_bytes number_at
   node_condition false c h k q e =
       let value : mask_at s at ≡ c.present =
-      read_drop MASKWIDTH s at OPERANDSAT ∙ ap (λ (l : List ℕ). number_at MASKWIDTH l OPERANDSAT) e ∙ from_to MASKWIDTH c.present h in
+      read_drop MASK_WIDTH s at OPERANDS_AT ∙ ap (λ (l : List ℕ). number_at MASK_WIDTH l OPERANDS_AT) e ∙ from_to MASK_WIDTH c.present h in
       let same : plain (mask_at s at) ≡ c = rw (value, ← q refl) in
       let size = room s (condition_bytes false c) rest at e in
       rw same at (condition_whole s at (omega arith) (here s _ at CONDITION e) (omega arith))
   node_condition true c h k q e =
       let present : mask_at s at ≡ c.present =
-      read_drop MASKWIDTH s at OPERANDSAT ∙ ap (λ (l : List ℕ). number_at MASKWIDTH l OPERANDSAT) e ∙ from_to MASKWIDTH c.present h in
-      let absent : number_at MASKWIDTH s (at + ABSENTAT) ≡ c.absent =
-      read_drop MASKWIDTH s at ABSENTAT ∙ ap (λ (l : List ℕ). number_at MASKWIDTH l ABSENTAT) e ∙ from_to MASKWIDTH c.absent k in
+      read_drop MASK_WIDTH s at OPERANDS_AT ∙ ap (λ (l : List ℕ). number_at MASK_WIDTH l OPERANDS_AT) e ∙ from_to MASK_WIDTH c.present h in
+      let absent : number_at MASK_WIDTH s (at + ABSENT_AT) ≡ c.absent =
+      read_drop MASK_WIDTH s at ABSENT_AT ∙ ap (λ (l : List ℕ). number_at MASK_WIDTH l ABSENT_AT) e ∙ from_to MASK_WIDTH c.absent k in
       let size = room s (condition_bytes true c) rest at e in
       rw (present, absent) at (pair_whole s at (omega arith) (here s _ at PAIR e) (omega arith))
 
@@ -79,9 +79,9 @@ module _ (s rest : List ℕ) (at : ℕ) where
       → accepted (record { value = leaf (leaf_of own job); next = at + length (leaf_bytes own job) }) ≡ node_at s at
   unfolding leaf_bytes
   node_leaf true job e =
-      let value : get_or s (at + OPERANDSAT) 0 ≡ job = here s rest (at + OPERANDSAT) job (drop_next s (JOBLEAF ∷ []) (job ∷ rest) at e) in
+      let value : get_or s (at + OPERANDS_AT) 0 ≡ job = here s rest (at + OPERANDS_AT) job (drop_next s (JOB_LEAF ∷ []) (job ∷ rest) at e) in
       let size = room s (leaf_bytes true job) rest at e in
-      rw value at (action_whole s at (omega arith) (here s _ at JOBLEAF e) (omega arith))
+      rw value at (action_whole s at (omega arith) (here s _ at JOB_LEAF e) (omega arith))
   node_leaf false job e =
       let size = room s (leaf_bytes false job) rest at e in
       wait_whole s at (omega arith) (here s _ at WAITING e)
@@ -90,7 +90,7 @@ module _ (s rest : List ℕ) (at : ℕ) where
       → accepted (record { value = branch kind n; next = at + length (branch_bytes kind n) }) ≡ node_at s at
   unfolding to_bytes number_at
   node_branch kind n lo hi e =
-      let value : count_at s at ≡ n = read_drop count_width s at OPERANDSAT ∙ ap (λ (l : List ℕ). number_at count_width l OPERANDSAT) e ∙ from_to count_width n (omega arith) in
+      let value : count_at s at ≡ n = read_drop count_width s at OPERANDS_AT ∙ ap (λ (l : List ℕ). number_at count_width l OPERANDS_AT) e ∙ from_to count_width n (omega arith) in
       let size = room s (branch_bytes kind n) rest at e in
       rw value at (branch_counted s at (omega arith) kind (here s _ at (kind_byte kind) e) (omega arith) (λ z. omega (arith, value)) (rw value hi))
 
@@ -98,7 +98,7 @@ end_read : (s : List ℕ) (at : ℕ) (t : Tree) → drop at s ≡ end_bytes → 
 unfolding read_end whole_at width_of
 end_read s at t e =
     let size = room s end_bytes [] at e in
-    let b = here s [] at ENDOFTREE e in
+    let b = here s [] at END_OF_TREE e in
     let whole : command_at s at ≡ Whole (get_or s at 0) (at + 1 + 0) = at_whole s at (omega arith) 0 (rw b) (omega arith) in
     rw (whole, b, eq-eqb (at + 1 + 0) (length s) (omega arith))
 

@@ -4,7 +4,7 @@
 -- Definitions only.
 use Rattle.std.specs.Prelude.{ℕ, ◌+◌, ◌-◌, ◌*◌, ◌≡◌, Bool, true, false, List, [], ◌∷◌, ◌++◌, length}
 use Rattle.std.proofs.lemmas.List.Edits.{sets}
-use Rattle.commands.specs.Commands.{CONDITION, PAIR, JOBLEAF, WAITING, ENDOFTREE, MASKWIDTH}
+use Rattle.commands.specs.Commands.{CONDITION, PAIR, JOB_LEAF, WAITING, END_OF_TREE, MASK_WIDTH}
 use Rattle.numbers.specs.Numbers.{to_bytes}
 use Rattle.conditions.specs.declared.Condition.{Condition}
 use Rattle.planning.specs.Expansion.{Entry}
@@ -19,16 +19,16 @@ abbrev pub branch_bytes : Kind → ℕ → List ℕ
 branch_bytes kind count = kind_byte kind ∷ to_bytes count_width count
 
 unfoldable pub condition_bytes : (paired : Bool) → Condition → List ℕ
-condition_bytes false c = CONDITION ∷ to_bytes MASKWIDTH c.present
-condition_bytes true c = PAIR ∷ to_bytes MASKWIDTH c.present ++ to_bytes MASKWIDTH c.absent
+condition_bytes false c = CONDITION ∷ to_bytes MASK_WIDTH c.present
+condition_bytes true c = PAIR ∷ to_bytes MASK_WIDTH c.present ++ to_bytes MASK_WIDTH c.absent
 
 -- an action, or where it is another's the waiting leaf
 unfoldable pub leaf_bytes : (mine : Bool) → ℕ → List ℕ
-leaf_bytes true action = JOBLEAF ∷ action ∷ []
+leaf_bytes true action = JOB_LEAF ∷ action ∷ []
 leaf_bytes false action = WAITING ∷ []
 
 abbrev pub end_bytes : List ℕ
-end_bytes = ENDOFTREE ∷ []
+end_bytes = END_OF_TREE ∷ []
 
 -- ---- the entries
 

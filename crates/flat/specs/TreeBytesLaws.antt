@@ -10,7 +10,7 @@ use mathlib.Core.List.{List, [], ◌∷◌, ◌++◌, append_assoc, append-nil}
 use Rattle.std.proofs.Math.ListN.{length, set, length-append}
 use Rattle.std.proofs.lemmas.List.Edits.{sets, sets-eq}
 use Rattle.base.specs.Lists.{length_prefix}
-use Rattle.commands.specs.Commands.{JOBLEAF, WAITING, ENDOFTREE, FALLBACKSIZE, SEQUENCESIZE, CONDITIONSIZE, JOBLEAFSIZE, PAIRSIZE, WAITINGSIZE, ENDOFTREESIZE, OPERANDSAT, MASKWIDTH}
+use Rattle.commands.specs.Commands.{JOB_LEAF, WAITING, END_OF_TREE, FALLBACK_SIZE, SEQUENCE_SIZE, CONDITION_SIZE, JOB_LEAF_SIZE, PAIR_SIZE, WAITING_SIZE, END_OF_TREE_SIZE, OPERANDS_AT, MASK_WIDTH}
 use Rattle.numbers.specs.Numbers.{to_bytes}
 use Rattle.numbers.specs.NumberLaws.{sets_after}
 use Rattle.conditions.specs.declared.Condition.{Condition}
@@ -23,23 +23,23 @@ use Rattle.flat.specs.TreeBytes.{branch_bytes, condition_bytes, leaf_bytes, end_
 
 -- ---- sizes
 
-pub branch_size : (kind : Kind) (n : ℕ) → length (branch_bytes kind n) ≡ FALLBACKSIZE
+pub branch_size : (kind : Kind) (n : ℕ) → length (branch_bytes kind n) ≡ FALLBACK_SIZE
 unfolding to_bytes
 branch_size kind n = refl
 
 -- what the command of a condition takes
 abbrev pub condition_size : Bool → ℕ
-condition_size false = CONDITIONSIZE
-condition_size true = PAIRSIZE
+condition_size false = CONDITION_SIZE
+condition_size true = PAIR_SIZE
 
 -- a leaf
 abbrev pub leaf_size : (mine : Bool) → ℕ
-leaf_size true = JOBLEAFSIZE
-leaf_size false = WAITINGSIZE
+leaf_size true = JOB_LEAF_SIZE
+leaf_size false = WAITING_SIZE
 
 -- an entry after the first, without its leaf
 abbrev pub stem_size : Bool → ℕ
-stem_size paired = SEQUENCESIZE + condition_size paired
+stem_size paired = SEQUENCE_SIZE + condition_size paired
 
 pub condition_size_is : (paired : Bool) (c : Condition) → length (condition_bytes paired c) ≡ condition_size paired
 unfolding condition_bytes to_bytes
@@ -51,7 +51,7 @@ unfolding leaf_bytes
 leaf_size_is true action = refl
 leaf_size_is false action = refl
 
-pub leaf_most : (mine : Bool) (action : ℕ) → (1 ≤ length (leaf_bytes mine action)) × (length (leaf_bytes mine action) ≤ JOBLEAFSIZE)
+pub leaf_most : (mine : Bool) (action : ℕ) → (1 ≤ length (leaf_bytes mine action)) × (length (leaf_bytes mine action) ≤ JOB_LEAF_SIZE)
 unfolding leaf_bytes
 leaf_most true action = (omega arith, omega arith)
 leaf_most false action = (omega arith, omega arith)
@@ -72,7 +72,7 @@ module _ (paired : Bool) where
         length-append (condition_bytes paired c) (leaf_bytes mine action),
       )
 
-  first_size : (n : ℕ) (c : Condition) → length (first_bytes paired n c) ≡ FALLBACKSIZE + condition_size paired
+  first_size : (n : ℕ) (c : Condition) → length (first_bytes paired n c) ≡ FALLBACK_SIZE + condition_size paired
   first_size n c = omega (arith, first_parts n c, branch_size Fallback n, condition_size_is paired c)
 
   entry_size : (c : Condition) (mine : Bool) (action : ℕ) → length (entry_bytes paired c mine action) ≡ stem_size paired + length (leaf_bytes mine action)
@@ -106,14 +106,14 @@ module _ (mine : ℕ → Bool) where
   later_size true (x ∷ l) = omega (arith, later_one mine true x l, later_size true l)
 
   pub counted_size : (paired : Bool) (n leaves : ℕ) (l : List (Entry Condition)) → 1 ≤ n → length l ≡ n → leaves ≡ leaves_size mine (drop 1 l)
-      → FALLBACKSIZE + condition_size paired + stem_size paired * (n - 1) + leaves + ENDOFTREESIZE ≡ length (own_tree mine paired l)
+      → FALLBACK_SIZE + condition_size paired + stem_size paired * (n - 1) + leaves + END_OF_TREE_SIZE ≡ length (own_tree mine paired l)
   counted_size paired n leaves [] h e f = absurd (omega arith)
   counted_size false n leaves (x ∷ l) h e f =
       omega (arith, parts_size mine false x l, first_size false (length (x ∷ l)) x.condition, later_size false l)
   counted_size true n leaves (x ∷ l) h e f =
       omega (arith, parts_size mine true x l, first_size true (length (x ∷ l)) x.condition, later_size true l)
 
-  pub leaves_most : (l : List (Entry Condition)) → leaves_size mine l ≤ JOBLEAFSIZE * length l
+  pub leaves_most : (l : List (Entry Condition)) → leaves_size mine l ≤ JOB_LEAF_SIZE * length l
   leaves_most [] = omega arith
   leaves_most (x ∷ l) = omega (arith, (leaf_most (mine x.action) x.action).1, leaves_most l)
 
@@ -129,7 +129,7 @@ module _ (mine : ℕ → Bool) where
   tree_most false (x ∷ l) h = omega (arith, counted_size false (length (x ∷ l)) (leaves_size mine l) (x ∷ l) h refl refl, leaves_most l)
   tree_most true (x ∷ l) h = omega (arith, counted_size true (length (x ∷ l)) (leaves_size mine l) (x ∷ l) h refl refl, leaves_most l)
 
-pub leaves_all : (l : List (Entry Condition)) → leaves_size everyone l ≡ JOBLEAFSIZE * length l
+pub leaves_all : (l : List (Entry Condition)) → leaves_size everyone l ≡ JOB_LEAF_SIZE * length l
 leaves_all [] = refl
 leaves_all (x ∷ l) = omega (arith, leaf_size_is true x.action, leaves_all l)
 
@@ -140,7 +140,7 @@ tree_length false (x ∷ l) h = omega (arith, counted_size everyone false (lengt
 tree_length true (x ∷ l) h = omega (arith, counted_size everyone true (length (x ∷ l)) (leaves_size everyone l) (x ∷ l) h refl refl, leaves_all l)
 
 -- what the command of a condition takes is small
-pub condition_small : (paired : Bool) → condition_size paired ≤ PAIRSIZE
+pub condition_small : (paired : Bool) → condition_size paired ≤ PAIR_SIZE
 condition_small false = omega arith
 condition_small true = omega arith
 
@@ -161,24 +161,24 @@ puts_front {bytes} {before} {after} {next} p h =
     p.written ∙ sets-eq bytes before 0 (omega arith) ∙ ap (λ (k : ℕ). bytes ++ drop k before) (zero-add (length bytes))
 
 module _ (l : List ℕ) (at : ℕ) where
-  pub branch_put : (byte n : ℕ) → Puts (byte ∷ to_bytes count_width n) at l (sets (set l at byte) (at + OPERANDSAT) (to_bytes count_width n)) (at + FALLBACKSIZE)
+  pub branch_put : (byte n : ℕ) → Puts (byte ∷ to_bytes count_width n) at l (sets (set l at byte) (at + OPERANDS_AT) (to_bytes count_width n)) (at + FALLBACK_SIZE)
   unfolding to_bytes
-  branch_put byte n = record { written = sets_after l (byte ∷ []) (to_bytes count_width n) at (at + OPERANDSAT) refl; past = refl }
+  branch_put byte n = record { written = sets_after l (byte ∷ []) (to_bytes count_width n) at (at + OPERANDS_AT) refl; past = refl }
 
   pub mask_put : (byte mask : ℕ)
-      → Puts (byte ∷ to_bytes MASKWIDTH mask) at l (sets (set l at byte) (at + OPERANDSAT) (to_bytes MASKWIDTH mask)) (at + CONDITIONSIZE)
+      → Puts (byte ∷ to_bytes MASK_WIDTH mask) at l (sets (set l at byte) (at + OPERANDS_AT) (to_bytes MASK_WIDTH mask)) (at + CONDITION_SIZE)
   unfolding to_bytes
-  mask_put byte mask = record { written = sets_after l (byte ∷ []) (to_bytes MASKWIDTH mask) at (at + OPERANDSAT) refl; past = refl }
+  mask_put byte mask = record { written = sets_after l (byte ∷ []) (to_bytes MASK_WIDTH mask) at (at + OPERANDS_AT) refl; past = refl }
 
-  pub action_put : (action : ℕ) → Puts (leaf_bytes true action) at l (set (set l at JOBLEAF) (at + OPERANDSAT) action) (at + JOBLEAFSIZE)
+  pub action_put : (action : ℕ) → Puts (leaf_bytes true action) at l (set (set l at JOB_LEAF) (at + OPERANDS_AT) action) (at + JOB_LEAF_SIZE)
   unfolding leaf_bytes
-  action_put action = record { written = ap (λ (k : ℕ). set (set l at JOBLEAF) k action) (add-one at); past = refl }
+  action_put action = record { written = ap (λ (k : ℕ). set (set l at JOB_LEAF) k action) (add-one at); past = refl }
 
-  pub waiting_put : (action : ℕ) → Puts (leaf_bytes false action) at l (set l at WAITING) (at + WAITINGSIZE)
+  pub waiting_put : (action : ℕ) → Puts (leaf_bytes false action) at l (set l at WAITING) (at + WAITING_SIZE)
   unfolding leaf_bytes
   waiting_put action = record { written = refl; past = refl }
 
-  pub end_put : Puts end_bytes at l (set l at ENDOFTREE) (at + ENDOFTREESIZE)
+  pub end_put : Puts end_bytes at l (set l at END_OF_TREE) (at + END_OF_TREE_SIZE)
   end_put = record { written = refl; past = refl }
 
 -- ---- the tree of the first entries of the columns, as it grows

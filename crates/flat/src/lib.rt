@@ -3,7 +3,7 @@
 // where an action is the other's, he waits. Without licences all actions are the first fitter's.
 #![tactic(auto)]
 ghost use Rattle.std.specs.Prelude.{◌≡◌, Bool, List, ◌∷◌, ◌++◌, ℕ, ◌+◌, ◌*◌, ◌≤◌, length, drop};
-ghost use Rattle.commands.specs.Commands.{JOB-LEAF-SIZE, MASK-WIDTH};
+ghost use Rattle.commands.specs.Commands.{JOB_LEAF_SIZE, MASK_WIDTH};
 ghost use Rattle.numbers.specs.Numbers.{to_bytes};
 ghost use Rattle.conditions.specs.declared.Condition.{Condition};
 ghost use Rattle.planning.specs.Expansion.{Entry};
@@ -37,7 +37,7 @@ fn leaf_size(mine: bool) -> usize
 // How many bytes the leaves take that stand for the actions of the entries after the first, in the fitter's tree.
 pub fn leaves_size(n: usize, actions: &[u8], licences: &[u8], fitter: Fitter) -> usize
     requires { (1 ≤ n) × (n ≤ max_children) × (n ≤ length actions.now) }
-    ensures { (result ≤ JOB-LEAF-SIZE * max_children) × ((conditions absences : List ℕ) → result
+    ensures { (result ≤ JOB_LEAF_SIZE * max_children) × ((conditions absences : List ℕ) → result
         ≡ leaves_size (owns licences.now fitter) (drop 1 (tree_entries conditions absences actions.now n))) }
 {
     let mut size: usize = 0;
@@ -51,7 +51,7 @@ pub fn leaves_size(n: usize, actions: &[u8], licences: &[u8], fitter: Fitter) ->
 
 // How many bytes a tree of a list of so many entries takes, by the bytes of its leaves.
 pub fn tree_size(paired: bool, n: usize, leaves: usize) -> usize
-    requires { (1 ≤ n) × (n ≤ max_children) × (leaves ≤ JOB-LEAF-SIZE * max_children) }
+    requires { (1 ≤ n) × (n ≤ max_children) × (leaves ≤ JOB_LEAF_SIZE * max_children) }
     ensures { (mine : ℕ → Bool) (l : List (Entry Condition)) → length l ≡ n → leaves ≡ leaves_size mine (drop 1 l) → result ≡ length (own_tree mine paired l) }
 {
     let condition = condition_size(paired);
@@ -74,8 +74,8 @@ fn put_branch(tree: &mut [u8], at: usize, byte: u8, count: u16) -> usize
 
 // CONDITION, or what a PAIR begins with: the command and its first mask.
 fn put_mask(tree: &mut [u8], at: usize, byte: u8, mask: u64) -> usize
-    requires { at + length (byte ∷ to_bytes MASK-WIDTH mask) ≤ length tree.old }
-    ensures { Puts (byte ∷ to_bytes MASK-WIDTH mask) at tree.old tree.new result }
+    requires { at + length (byte ∷ to_bytes MASK_WIDTH mask) ≤ length tree.old }
+    ensures { Puts (byte ∷ to_bytes MASK_WIDTH mask) at tree.old tree.new result }
 {
     tree[at] = byte;
     numbers::write_u64(tree, at + commands::OPERANDS_AT, mask);

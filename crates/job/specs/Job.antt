@@ -1,7 +1,7 @@
 -- One job, and its bytes: document 01, "Commands"; document 02, W10.
 -- Definitions only.
 use Rattle.std.specs.Prelude.{ℕ, ◌+◌, ◌^◌, ◌<◌, ◌≡◌, Bool, true, false, List, [], ◌∷◌, ◌++◌, eqb, length, get_or}
-use Rattle.commands.specs.Commands.{JOB, PAIREDJOB, OPERANDSAT, ABSENTAT, ADDSAT, PAIREDADDSAT, MASKWIDTH, Past}
+use Rattle.commands.specs.Commands.{JOB, PAIRED_JOB, OPERANDS_AT, ABSENT_AT, ADDS_AT, PAIRED_ADDS_AT, MASK_WIDTH, Past}
 use Rattle.numbers.specs.Numbers.{to_bytes, number_at}
 use Rattle.conditions.specs.declared.Action.{Action}
 use Rattle.job.specs.declared.Job.{Job}
@@ -30,7 +30,7 @@ effect_bytes j = to_bytes 8 j.adds ++ (to_bytes 8 j.deletes ++ to_bytes 2 j.seco
 
 abbrev pub command_by : Bool → ℕ
 command_by false = JOB
-command_by true = PAIREDJOB
+command_by true = PAIRED_JOB
 
 -- "needs, absent, adds, deletes and seconds", of a 0x20 without absent
 abbrev pub operands_by : Bool → Job → List ℕ
@@ -48,21 +48,21 @@ job_size j = length (job_bytes j)
 abbrev pub job_with : (paired : Bool) (absent adds : ℕ) → List ℕ → ℕ → Job
 job_with paired absent adds s at =
     record {
-      needs = number_at 8 s (at + OPERANDSAT);
+      needs = number_at 8 s (at + OPERANDS_AT);
       absent = absent;
       adds = number_at 8 s (at + adds);
-      deletes = number_at 8 s (at + (adds + MASKWIDTH));
-      seconds = number_at 2 s (at + (adds + MASKWIDTH + MASKWIDTH));
+      deletes = number_at 8 s (at + (adds + MASK_WIDTH));
+      seconds = number_at 2 s (at + (adds + MASK_WIDTH + MASK_WIDTH));
       paired = paired;
     }
 
 -- by its command
 abbrev pub job_by : Bool → List ℕ → ℕ → Job
-job_by false s at = job_with false 0 ADDSAT s at
-job_by true s at = job_with true (number_at 8 s (at + ABSENTAT)) PAIREDADDSAT s at
+job_by false s at = job_with false 0 ADDS_AT s at
+job_by true s at = job_with true (number_at 8 s (at + ABSENT_AT)) PAIRED_ADDS_AT s at
 
 unfoldable pub job_at : List ℕ → ℕ → Job
-job_at s at = job_by (eqb (get_or s at 0) PAIREDJOB) s at
+job_at s at = job_by (eqb (get_or s at 0) PAIRED_JOB) s at
 
 -- the job at an offset, and the offset past it
 abbrev pub job_from : List ℕ → ℕ → Past Job

@@ -7,7 +7,7 @@ use Rattle.std.proofs.Math.Bool.{true, false}
 use mathlib.Core.List.{List, ◌∷◌, ◌++◌, append_assoc}
 use Rattle.std.proofs.Math.ListN.{get_or}
 use Rattle.commands.specs.declared.Width.TheVariants.{Bytes}
-use Rattle.commands.specs.Commands.{PAIREDJOB, JOBSIZE, PAIREDJOBSIZE, OPERANDSAT, ABSENTAT, ADDSAT, PAIREDADDSAT, MASKWIDTH, width_of}
+use Rattle.commands.specs.Commands.{PAIRED_JOB, JOB_SIZE, PAIRED_JOB_SIZE, OPERANDS_AT, ABSENT_AT, ADDS_AT, PAIRED_ADDS_AT, MASK_WIDTH, width_of}
 use Rattle.numbers.specs.Numbers.{AreBytes, to_bytes, number_at}
 use Rattle.numbers.specs.NumberLaws.{from_to, read_drop, number_lt, byte_there, number_there}
 use Rattle.job.specs.declared.Job.{Job}
@@ -15,8 +15,8 @@ use Rattle.job.specs.Job.{StorableJob, command_by, operands_by, job_bytes, job_s
 
 -- the bytes that a job takes, by its command
 abbrev pub size_by : Bool → ℕ
-size_by false = JOBSIZE
-size_by true = PAIREDJOBSIZE
+size_by false = JOB_SIZE
+size_by true = PAIRED_JOB_SIZE
 
 pub by_size : (paired : Bool) (j : Job) → suc (length (operands_by paired j)) ≡ size_by paired
 unfolding to_bytes
@@ -37,22 +37,22 @@ pub job_length : (j : Job) → length (job_bytes j) ≡ job_size j
 unfolding job_size
 job_length j = refl
 
-pub size_most : (paired : Bool) → size_by paired ≤ PAIREDJOBSIZE
+pub size_most : (paired : Bool) → size_by paired ≤ PAIRED_JOB_SIZE
 size_most false = omega arith
 size_most true = omega arith
 
-pub size_least : (paired : Bool) → JOBSIZE ≤ size_by paired
+pub size_least : (paired : Bool) → JOB_SIZE ≤ size_by paired
 size_least false = omega arith
 size_least true = omega arith
 
 -- the job at an offset is of the kind that its byte names
-of_test : (s : List ℕ) (at : ℕ) (paired : Bool) → eqb (get_or s at 0) PAIREDJOB ≡ paired → job_at s at ≡ job_by paired s at
+of_test : (s : List ℕ) (at : ℕ) (paired : Bool) → eqb (get_or s at 0) PAIRED_JOB ≡ paired → job_at s at ≡ job_by paired s at
 unfolding job_at
 of_test s at paired e = rw e
 
 pub at_kind : (s : List ℕ) (at : ℕ) (paired : Bool) → get_or s at 0 ≡ command_by paired → job_at s at ≡ job_by paired s at
-at_kind s at false e = of_test s at false (ap (λ (byte : ℕ). eqb byte PAIREDJOB) e)
-at_kind s at true e = of_test s at true (ap (λ (byte : ℕ). eqb byte PAIREDJOB) e)
+at_kind s at false e = of_test s at false (ap (λ (byte : ℕ). eqb byte PAIRED_JOB) e)
+at_kind s at true e = of_test s at true (ap (λ (byte : ℕ). eqb byte PAIRED_JOB) e)
 
 pub by_kind : (paired : Bool) (s : List ℕ) (at : ℕ) → (job_by paired s at).paired ≡ paired
 by_kind false s at = refl
@@ -62,14 +62,14 @@ by_kind true s at = refl
 
 -- the parts that are read with offsets counted from the adds on are the job's
 module _ (paired : Bool) (absent adds : ℕ) (s : List ℕ) (at : ℕ) where
-  deletes_at : at + adds + MASKWIDTH ≡ at + (adds + MASKWIDTH)
+  deletes_at : at + adds + MASK_WIDTH ≡ at + (adds + MASK_WIDTH)
   deletes_at = omega arith
 
-  seconds_at : at + adds + MASKWIDTH + MASKWIDTH ≡ at + (adds + MASKWIDTH + MASKWIDTH)
+  seconds_at : at + adds + MASK_WIDTH + MASK_WIDTH ≡ at + (adds + MASK_WIDTH + MASK_WIDTH)
   seconds_at = omega arith
 
-  pub with_parts : (j : Job) → j.paired ≡ paired → j.absent ≡ absent → j.needs ≡ number_at 8 s (at + OPERANDSAT) → j.adds ≡ number_at 8 s (at + adds)
-      → j.deletes ≡ number_at 8 s (at + adds + MASKWIDTH) → j.seconds ≡ number_at 2 s (at + adds + MASKWIDTH + MASKWIDTH) → j ≡ job_with paired absent adds s at
+  pub with_parts : (j : Job) → j.paired ≡ paired → j.absent ≡ absent → j.needs ≡ number_at 8 s (at + OPERANDS_AT) → j.adds ≡ number_at 8 s (at + adds)
+      → j.deletes ≡ number_at 8 s (at + adds + MASK_WIDTH) → j.seconds ≡ number_at 2 s (at + adds + MASK_WIDTH + MASK_WIDTH) → j ≡ job_with paired absent adds s at
   with_parts j p l n a d t =
       λ i. record {
         needs = n i;
@@ -82,13 +82,13 @@ module _ (paired : Bool) (absent adds : ℕ) (s : List ℕ) (at : ℕ) where
 
 -- the job and the offset past it, by the test of its byte
 module _ (s : List ℕ) (at : ℕ) where
-  from_test : (paired : Bool) → eqb (get_or s at 0) PAIREDJOB ≡ paired → record { value = job_by paired s at; next = at + size_by paired } ≡ job_from s at
+  from_test : (paired : Bool) → eqb (get_or s at 0) PAIRED_JOB ≡ paired → record { value = job_by paired s at; next = at + size_by paired } ≡ job_from s at
   from_test paired e = rw (job_size_is (job_at s at), of_test s at paired e, by_kind paired s at)
 
-  pub from_pair : get_or s at 0 ≡ PAIREDJOB → record { value = job_by true s at; next = at + PAIREDJOBSIZE } ≡ job_from s at
+  pub from_pair : get_or s at 0 ≡ PAIRED_JOB → record { value = job_by true s at; next = at + PAIRED_JOB_SIZE } ≡ job_from s at
   from_pair e = from_test true (eq-eqb _ _ e)
 
-  pub from_plain : (get_or s at 0 ≡ PAIREDJOB → ⊥) → record { value = job_by false s at; next = at + JOBSIZE } ≡ job_from s at
+  pub from_plain : (get_or s at 0 ≡ PAIRED_JOB → ⊥) → record { value = job_by false s at; next = at + JOB_SIZE } ≡ job_from s at
   from_plain e = from_test false (ne_eqb _ _ e)
 
   pub kind_size : (paired : Bool) → get_or s at 0 ≡ command_by paired → job_size (job_at s at) ≡ size_by paired
@@ -104,7 +104,7 @@ module _ (s rest : List ℕ) (at : ℕ) where
   read_by : (paired : Bool) (j : Job) → StorableJob j → j.paired ≡ paired → drop at s ≡ (command_by paired ∷ operands_by paired j) ++ rest → job_by paired s at ≡ j
   unfolding number_at to_bytes
   read_by false j h p e =
-      rw (read_drop 8 s at OPERANDSAT, read_drop 8 s at ADDSAT, read_drop 8 s at (ADDSAT + MASKWIDTH), read_drop 2 s at (ADDSAT + MASKWIDTH + MASKWIDTH), e)
+      rw (read_drop 8 s at OPERANDS_AT, read_drop 8 s at ADDS_AT, read_drop 8 s at (ADDS_AT + MASK_WIDTH), read_drop 2 s at (ADDS_AT + MASK_WIDTH + MASK_WIDTH), e)
       (λ i. record {
         needs = from_to 8 j.needs h.needs_fit i;
         absent = sym (h.unpaired p) i;
@@ -115,11 +115,11 @@ module _ (s rest : List ℕ) (at : ℕ) where
       })
   read_by true j h p e =
       rw (
-        read_drop 8 s at OPERANDSAT,
-        read_drop 8 s at ABSENTAT,
-        read_drop 8 s at PAIREDADDSAT,
-        read_drop 8 s at (PAIREDADDSAT + MASKWIDTH),
-        read_drop 2 s at (PAIREDADDSAT + MASKWIDTH + MASKWIDTH),
+        read_drop 8 s at OPERANDS_AT,
+        read_drop 8 s at ABSENT_AT,
+        read_drop 8 s at PAIRED_ADDS_AT,
+        read_drop 8 s at (PAIRED_ADDS_AT + MASK_WIDTH),
+        read_drop 2 s at (PAIRED_ADDS_AT + MASK_WIDTH + MASK_WIDTH),
         e,
       )
       (λ i. record {
@@ -146,24 +146,24 @@ module _ (s : List ℕ) (b : AreBytes s) (at : ℕ) where
   written_by false e l =
       simp append_assoc
       (rw (
-        number_there s b 2 (at + (ADDSAT + MASKWIDTH + MASKWIDTH)) (at + JOBSIZE) (omega arith) (omega arith),
-        number_there s b 8 (at + (ADDSAT + MASKWIDTH)) (at + (ADDSAT + MASKWIDTH + MASKWIDTH)) (omega arith) (omega arith),
-        number_there s b 8 (at + ADDSAT) (at + (ADDSAT + MASKWIDTH)) (omega arith) (omega arith),
-        number_there s b 8 (at + OPERANDSAT) (at + ADDSAT) (omega arith) (omega arith),
+        number_there s b 2 (at + (ADDS_AT + MASK_WIDTH + MASK_WIDTH)) (at + JOB_SIZE) (omega arith) (omega arith),
+        number_there s b 8 (at + (ADDS_AT + MASK_WIDTH)) (at + (ADDS_AT + MASK_WIDTH + MASK_WIDTH)) (omega arith) (omega arith),
+        number_there s b 8 (at + ADDS_AT) (at + (ADDS_AT + MASK_WIDTH)) (omega arith) (omega arith),
+        number_there s b 8 (at + OPERANDS_AT) (at + ADDS_AT) (omega arith) (omega arith),
         ← e,
       )
-      (byte_there s at (at + OPERANDSAT) refl (omega arith)))
+      (byte_there s at (at + OPERANDS_AT) refl (omega arith)))
   written_by true e l =
       simp append_assoc
       (rw (
-        number_there s b 2 (at + (PAIREDADDSAT + MASKWIDTH + MASKWIDTH)) (at + PAIREDJOBSIZE) (omega arith) (omega arith),
-        number_there s b 8 (at + (PAIREDADDSAT + MASKWIDTH)) (at + (PAIREDADDSAT + MASKWIDTH + MASKWIDTH)) (omega arith) (omega arith),
-        number_there s b 8 (at + PAIREDADDSAT) (at + (PAIREDADDSAT + MASKWIDTH)) (omega arith) (omega arith),
-        number_there s b 8 (at + ABSENTAT) (at + PAIREDADDSAT) (omega arith) (omega arith),
-        number_there s b 8 (at + OPERANDSAT) (at + ABSENTAT) (omega arith) (omega arith),
+        number_there s b 2 (at + (PAIRED_ADDS_AT + MASK_WIDTH + MASK_WIDTH)) (at + PAIRED_JOB_SIZE) (omega arith) (omega arith),
+        number_there s b 8 (at + (PAIRED_ADDS_AT + MASK_WIDTH)) (at + (PAIRED_ADDS_AT + MASK_WIDTH + MASK_WIDTH)) (omega arith) (omega arith),
+        number_there s b 8 (at + PAIRED_ADDS_AT) (at + (PAIRED_ADDS_AT + MASK_WIDTH)) (omega arith) (omega arith),
+        number_there s b 8 (at + ABSENT_AT) (at + PAIRED_ADDS_AT) (omega arith) (omega arith),
+        number_there s b 8 (at + OPERANDS_AT) (at + ABSENT_AT) (omega arith) (omega arith),
         ← e,
       )
-      (byte_there s at (at + OPERANDSAT) refl (omega arith)))
+      (byte_there s at (at + OPERANDS_AT) refl (omega arith)))
 
   pub written_job : (paired : Bool) → get_or s at 0 ≡ command_by paired → at + size_by paired ≤ length s
       → job_bytes (job_at s at) ++ drop (at + size_by paired) s ≡ drop at s
@@ -172,7 +172,7 @@ module _ (s : List ℕ) (b : AreBytes s) (at : ℕ) where
 
   pub job_fits : StorableJob (job_at s at)
   unfolding job_at
-  job_fits = fits_by (eqb (get_or s at 0) PAIREDJOB)
+  job_fits = fits_by (eqb (get_or s at 0) PAIRED_JOB)
     where
       fits_by : (paired : Bool) → StorableJob (job_by paired s at)
       fits_by false =

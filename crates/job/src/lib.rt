@@ -1,7 +1,8 @@
 // One job of a table: read from its bytes, and validated (document 01, "Commands" and stops 5 and 6; document 02, W3, 19, and W10, 22).
 #![tactic(auto)]
+
 ghost use Rattle.std.specs.Prelude.{◌≡◌, ◌+◌, ◌≤◌, length};
-ghost use Rattle.commands.specs.Commands.{ADDS-AT, EFFECTS-WIDTH};
+ghost use Rattle.commands.specs.Commands.{ADDS_AT, EFFECTS_WIDTH};
 ghost use Rattle.job.specs.Job.{action_of, command_by, job_size, job_with, job_from, past_job_of};
 ghost use Rattle.job.specs.Validation.{in_range, overlaps, validated_job, validated_of};
 
@@ -61,8 +62,8 @@ pub struct PastJob {
 
 // The job at an offset, whose absent facts are known and whose adds, deletes and seconds stand so many bytes on.
 fn job_with(s: &[u8], at: usize, paired: bool, absent: u64, adds_at: usize) -> PastJob
-    requires { (at + (adds_at + EFFECTS-WIDTH) ≤ length s.now) × (ADDS-AT ≤ adds_at) }
-    ensures { past_job_of result ≡ record { value = job_with paired absent adds_at s.now at; next = at + (adds_at + EFFECTS-WIDTH) } }
+    requires { (at + (adds_at + EFFECTS_WIDTH) ≤ length s.now) × (ADDS_AT ≤ adds_at) }
+    ensures { past_job_of result ≡ record { value = job_with paired absent adds_at s.now at; next = at + (adds_at + EFFECTS_WIDTH) } }
 {
     let effects = at + adds_at;
     let needs = numbers::read_u64(s, at + commands::OPERANDS_AT);

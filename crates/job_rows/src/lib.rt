@@ -1,5 +1,6 @@
 // The jobs of a sound table as rows, one for each operand, for whoever tries every job again and again.
 #![tactic(auto)]
+
 ghost use Rattle.std.specs.Prelude.{◌≡◌, ◌≤◌, length};
 ghost use Rattle.table.specs.Read.{read_table, jobs_of};
 ghost use Rattle.job_rows.specs.Rows.{loaded};

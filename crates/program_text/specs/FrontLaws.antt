@@ -18,7 +18,7 @@ use Rattle.commands.specs.declared.Command.{Command}
 use Rattle.commands.specs.declared.Width.{Width}
 use Rattle.commands.specs.declared.Width.TheVariants.{Bytes, NoCommand}
 use Rattle.commands.specs.declared.Found.TheVariants.{Whole, Cut}
-use Rattle.commands.specs.Commands.{PAIREDJOB, GOAL, OPERANDSAT, ABSENTAT, ADDSAT, PAIREDADDSAT, MASKWIDTH, EFFECTSWIDTH, commands, width_in, width_of, operands_at, command_at}
+use Rattle.commands.specs.Commands.{PAIRED_JOB, GOAL, OPERANDS_AT, ABSENT_AT, ADDS_AT, PAIRED_ADDS_AT, MASK_WIDTH, EFFECTS_WIDTH, commands, width_in, width_of, operands_at, command_at}
 use Rattle.numbers.specs.Numbers.{from_bytes, number_at}
 use Rattle.job.specs.declared.Job.{Job}
 use Rattle.table.specs.declared.Stage.{Stage}
@@ -99,22 +99,22 @@ module _ (p r : List ℕ) where
   -- of a job of the wider kind, and so of the other
   job_same : (at : ℕ) → at + widest Middle ≤ length p → job_at (p ++ r) at ≡ job_at p at
   unfolding job_at
-  job_same at h = rw (get_or-append p r 0 at (omega arith)) (by (eqb (get_or p at 0) PAIREDJOB))
+  job_same at h = rw (get_or-append p r 0 at (omega arith)) (by (eqb (get_or p at 0) PAIRED_JOB))
     where
-      with_same : (paired : Bool) (absent absent' adds : ℕ) → absent ≡ absent' → at + (adds + EFFECTSWIDTH) ≤ length p → ADDSAT ≤ adds
+      with_same : (paired : Bool) (absent absent' adds : ℕ) → absent ≡ absent' → at + (adds + EFFECTS_WIDTH) ≤ length p → ADDS_AT ≤ adds
           → job_with paired absent adds (p ++ r) at ≡ job_with paired absent' adds p at
       with_same paired absent absent' adds e k l =
           rw (
             e,
-            number_same 8 (at + OPERANDSAT) (omega arith),
+            number_same 8 (at + OPERANDS_AT) (omega arith),
             number_same 8 (at + adds) (omega arith),
-            number_same 8 (at + (adds + MASKWIDTH)) (omega arith),
-            number_same 2 (at + (adds + MASKWIDTH + MASKWIDTH)) (omega arith),
+            number_same 8 (at + (adds + MASK_WIDTH)) (omega arith),
+            number_same 2 (at + (adds + MASK_WIDTH + MASK_WIDTH)) (omega arith),
           )
 
       by : (paired : Bool) → job_by paired (p ++ r) at ≡ job_by paired p at
-      by false = with_same false 0 0 ADDSAT refl (omega arith) (omega arith)
-      by true = with_same true _ _ PAIREDADDSAT (number_same 8 (at + ABSENTAT) (omega arith)) (omega arith) (omega arith)
+      by false = with_same false 0 0 ADDS_AT refl (omega arith) (omega arith)
+      by true = with_same true _ _ PAIRED_ADDS_AT (number_same 8 (at + ABSENT_AT) (omega arith)) (omega arith) (omega arith)
 
   -- END, with a byte after it
   end_same : (t : Table) (at : ℕ) → at + widest Last + 1 ≤ length p → read_end (p ++ r) t at ≡ read_end p t at

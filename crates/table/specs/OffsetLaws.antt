@@ -6,7 +6,7 @@ use Rattle.std.proofs.Math.Path.{sym, ap}
 use mathlib.Core.List.{List, [], ◌∷◌, ◌++◌, append_assoc, append-nil}
 use Rattle.std.proofs.Math.Seq.{take-length}
 use Rattle.refusal.specs.Checked.{Checked, accepted, refused}
-use Rattle.commands.specs.Commands.{FACTSSIZE, PAIREDJOBSIZE}
+use Rattle.commands.specs.Commands.{FACTS_SIZE, PAIRED_JOB_SIZE}
 use Rattle.numbers.specs.Numbers.{AreBytes}
 use Rattle.job.specs.declared.Job.{Job}
 use Rattle.job.specs.Job.{no_job, job_bytes, job_size, job_at, job_from}
@@ -32,7 +32,7 @@ jobs_snoc js j = jobs_append js (j ∷ []) ∙ ap (λ (r : List ℕ). jobs_bytes
 pub snoc_length : (js : List Job) (j : Job) → length (jobs_bytes (js ++ (j ∷ []))) ≡ length (jobs_bytes js) + job_size j
 snoc_length js j = ap length (jobs_snoc js j) ∙ omega (arith, length-append (jobs_bytes js) (job_bytes j), job_length j)
 
-pub first_offset : (js : List Job) → offset_of js 0 ≡ FACTSSIZE
+pub first_offset : (js : List Job) → offset_of js 0 ≡ FACTS_SIZE
 unfolding offset_of jobs_bytes
 first_offset js = refl
 
@@ -45,17 +45,17 @@ unfolding goal_offset offset_of
 last_offset t = rw take-length
 
 -- a table's jobs are few, so its offsets are small numbers
-jobs_small : (js : List Job) → length (jobs_bytes js) ≤ PAIREDJOBSIZE * length js
+jobs_small : (js : List Job) → length (jobs_bytes js) ≤ PAIRED_JOB_SIZE * length js
 unfolding jobs_bytes
 jobs_small [] = omega arith
 jobs_small (j ∷ js) = omega (arith, length-append (job_bytes j) (jobs_bytes js), job_length j, job_size_is j, size_most j.paired, jobs_small js)
 
-pub offset_small : (js : List Job) (i : ℕ) → offset_of js i ≤ FACTSSIZE + PAIREDJOBSIZE * i
+pub offset_small : (js : List Job) (i : ℕ) → offset_of js i ≤ FACTS_SIZE + PAIRED_JOB_SIZE * i
 unfolding offset_of
 offset_small js i = omega (arith, jobs_small (take i js), length-take i js)
 
 -- no job stands past GOAL
-pub offset_within : (js : List Job) (i : ℕ) → offset_of js i ≤ FACTSSIZE + length (jobs_bytes js)
+pub offset_within : (js : List Job) (i : ℕ) → offset_of js i ≤ FACTS_SIZE + length (jobs_bytes js)
 unfolding offset_of
 offset_within js i = omega (arith, length-append (jobs_bytes (take i js)) (jobs_bytes (drop i js)), ap length (parted js i))
 
@@ -71,7 +71,7 @@ module _ (s : List ℕ) (b : AreBytes s) (t : Table) (q : read_table s ≡ accep
   unfolding offset_of table_bytes jobs_bytes
   from_job =
       ap (drop (offset_of t.jobs i)) (sym (written_back s b t q))
-      ∙ sym (drop-drop (length (jobs_bytes (take i t.jobs))) FACTSSIZE (table_bytes t))
+      ∙ sym (drop-drop (length (jobs_bytes (take i t.jobs))) FACTS_SIZE (table_bytes t))
       ∙ drop_jobs t.jobs (goal_bytes t.goal) i
       ∙ ap (λ (ks : List Job). jobs_bytes ks ++ goal_bytes t.goal) (drop-cons t.jobs i no_job h)
       ∙ append_assoc (job_bytes (get_or t.jobs i no_job)) _ _

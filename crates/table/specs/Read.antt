@@ -8,7 +8,7 @@ use Rattle.masks.specs.Sets.{within}
 use Rattle.refusal.specs.Checked.{Checked, accepted, refused, refused_by, and_then}
 use Rattle.commands.specs.declared.Found.{Found}
 use Rattle.commands.specs.declared.Found.TheVariants.{Missing, Unknown, Cut, Whole}
-use Rattle.commands.specs.Commands.{FACTS, JOB, PAIREDJOB, GOAL, ENDOFTABLE, OPERANDSAT, Past, command_at}
+use Rattle.commands.specs.Commands.{FACTS, JOB, PAIRED_JOB, GOAL, END_OF_TABLE, OPERANDS_AT, Past, command_at}
 use Rattle.numbers.specs.Numbers.{number_at}
 use Rattle.job.specs.declared.Job.{Job}
 use Rattle.job.specs.Job.{no_job, job_at}
@@ -24,8 +24,8 @@ use Rattle.table.specs.Table.{Table, max_facts, max_jobs, has_pair}
 -- which command may stand there: FACTS first, then JOBs, of either kind, up to GOAL, then END
 abbrev pub allowed : Stage → ℕ → Bool
 allowed First byte = eqb byte FACTS
-allowed Middle byte = eqb byte JOB || (eqb byte PAIREDJOB || eqb byte GOAL)
-allowed Last byte = eqb byte ENDOFTABLE
+allowed Middle byte = eqb byte JOB || (eqb byte PAIRED_JOB || eqb byte GOAL)
+allowed Last byte = eqb byte END_OF_TABLE
 
 -- A command byte, with the offset past its operands. 1: "The table ends where a command or operand is due." 2: "A table command is unknown or not
 -- allowed there." The place is the command's offset, and "the length where a command byte is missing".
@@ -45,7 +45,7 @@ read_end s t at = and_then (due Last s at) λ c. if eqb c.next (length s) then a
 -- GOAL at an offset, whose operand ends before `next`. 5: "A table mask has a bit at or above F."
 unfoldable pub read_goal : List ℕ → ℕ → List Job → ℕ → ℕ → Checked Table
 read_goal s facts js at next =
-    let goal = number_at 8 s (at + OPERANDSAT) in
+    let goal = number_at 8 s (at + OPERANDS_AT) in
     if within facts goal then read_end s (record { facts = facts; jobs = js; goal = goal }) next else refused 5 at
 
 -- the JOBs from an offset on, up to GOAL, after those of `js`; `left` more may follow. 4: "A 129th JOB stands in the table."
@@ -64,7 +64,7 @@ facts_in_range facts = leb 1 facts && leb facts max_facts
 unfoldable pub read_table : List ℕ → Checked Table
 read_table s =
     and_then (due First s 0) λ c.
-    let facts = get_or s OPERANDSAT 0 in
+    let facts = get_or s OPERANDS_AT 0 in
     if facts_in_range facts then read_jobs s facts max_jobs [] c.next else refused 3 0
 
 -- the jobs of a table; bytes that are no table have none

@@ -14,7 +14,7 @@ use Rattle.refusal.specs.CheckedLaws.{not_both, accepted_same}
 use Rattle.commands.specs.declared.Found.{Found}
 use Rattle.commands.specs.declared.Found.TheVariants.{Missing, Unknown, Cut, Whole}
 use Rattle.commands.specs.declared.Width.TheVariants.{Bytes}
-use Rattle.commands.specs.Commands.{FACTS, JOB, PAIREDJOB, GOAL, ENDOFTABLE, FACTSSIZE, GOALSIZE, ENDOFTABLESIZE, OPERANDSAT, Past, width_of, command_at}
+use Rattle.commands.specs.Commands.{FACTS, JOB, PAIRED_JOB, GOAL, END_OF_TABLE, FACTS_SIZE, GOAL_SIZE, END_OF_TABLE_SIZE, OPERANDS_AT, Past, width_of, command_at}
 use Rattle.commands.specs.CommandLaws.{WholeAt, whole_told}
 use Rattle.numbers.specs.Numbers.{number_at}
 use Rattle.job.specs.declared.Job.{Job}
@@ -99,16 +99,16 @@ pub record JobDue (s : List ℕ) (at : ℕ) (c : Past ℕ) : Type 0 where
   pub inside : at + size_by paired ≤ length s
 
 module _ (s : List ℕ) (at : ℕ) (c : Past ℕ) where
-  pub facts_inside : accepted c ≡ due First s at → (c.next ≡ at + FACTSSIZE) × (at + FACTSSIZE ≤ length s)
+  pub facts_inside : accepted c ≡ due First s at → (c.next ≡ at + FACTS_SIZE) × (at + FACTS_SIZE ≤ length s)
   unfolding width_of
   facts_inside e = let d = due_told First s at c e in omega (arith, sized s at c FACTS _ d.whole (eqb-true _ _ d.fits) refl)
 
-  pub end_inside : accepted c ≡ due Last s at → (c.next ≡ at + ENDOFTABLESIZE) × (at + ENDOFTABLESIZE ≤ length s)
+  pub end_inside : accepted c ≡ due Last s at → (c.next ≡ at + END_OF_TABLE_SIZE) × (at + END_OF_TABLE_SIZE ≤ length s)
   unfolding width_of
-  end_inside e = let d = due_told Last s at c e in omega (arith, sized s at c ENDOFTABLE _ d.whole (eqb-true _ _ d.fits) refl)
+  end_inside e = let d = due_told Last s at c e in omega (arith, sized s at c END_OF_TABLE _ d.whole (eqb-true _ _ d.fits) refl)
 
   module _ (e : accepted c ≡ due Middle s at) where
-    pub goal_inside : c.value ≡ GOAL → (c.next ≡ at + GOALSIZE) × (at + GOALSIZE ≤ length s)
+    pub goal_inside : c.value ≡ GOAL → (c.next ≡ at + GOAL_SIZE) × (at + GOAL_SIZE ≤ length s)
     unfolding width_of
     goal_inside b = omega (arith, sized s at c GOAL _ (due_told Middle s at c e).whole b refl)
 
@@ -121,9 +121,9 @@ module _ (s : List ℕ) (at : ℕ) (c : Past ℕ) where
 
     -- a command that is due after FACTS and is no GOAL is a job, of one kind or the other
     pub job_due : (c.value ≡ GOAL → ⊥) → JobDue s at c
-    job_due b = by_test (eqb c.value JOB) refl (eqb c.value PAIREDJOB) refl
+    job_due b = by_test (eqb c.value JOB) refl (eqb c.value PAIRED_JOB) refl
       where
-        by_test : (x : Bool) → eqb c.value JOB ≡ x → (y : Bool) → eqb c.value PAIREDJOB ≡ y → JobDue s at c
+        by_test : (x : Bool) → eqb c.value JOB ≡ x → (y : Bool) → eqb c.value PAIRED_JOB ≡ y → JobDue s at c
         by_test true p y q = job_of false (eqb-true _ _ p)
         by_test false p true q = job_of true (eqb-true _ _ q)
         by_test false p false q = absurd (b (eqb-true _ _ (rw (p, q) at (due_told Middle s at c e).fits)))
@@ -154,12 +154,12 @@ module _ (s : List ℕ) (t : Table) (at : ℕ) where
 -- ---- GOAL
 
 module _ (s : List ℕ) (facts : ℕ) (js : List Job) (at next : ℕ) where
-  pub goal_out : within facts (number_at 8 s (at + OPERANDSAT)) ≡ false → refused 5 at ≡ read_goal s facts js at next
+  pub goal_out : within facts (number_at 8 s (at + OPERANDS_AT)) ≡ false → refused 5 at ≡ read_goal s facts js at next
   unfolding read_goal
   goal_out e = rw e
 
-  pub goal_in : within facts (number_at 8 s (at + OPERANDSAT)) ≡ true
-      → read_end s (record { facts = facts; jobs = js; goal = number_at 8 s (at + OPERANDSAT) }) next ≡ read_goal s facts js at next
+  pub goal_in : within facts (number_at 8 s (at + OPERANDS_AT)) ≡ true
+      → read_end s (record { facts = facts; jobs = js; goal = number_at 8 s (at + OPERANDS_AT) }) next ≡ read_goal s facts js at next
   unfolding read_goal
   goal_in e = rw e
 
@@ -198,11 +198,11 @@ module _ (s : List ℕ) where
   table_refused n p e = rw (← e)
 
   module _ (c : Past ℕ) (e : accepted c ≡ due First s 0) where
-    pub table_facts : facts_in_range (get_or s OPERANDSAT 0) ≡ true → read_jobs s (get_or s OPERANDSAT 0) max_jobs [] c.next ≡ read_table s
+    pub table_facts : facts_in_range (get_or s OPERANDS_AT 0) ≡ true → read_jobs s (get_or s OPERANDS_AT 0) max_jobs [] c.next ≡ read_table s
     unfolding read_table
     table_facts f = rw (← e, f)
 
-    pub table_no_facts : facts_in_range (get_or s OPERANDSAT 0) ≡ false → refused 3 0 ≡ read_table s
+    pub table_no_facts : facts_in_range (get_or s OPERANDS_AT 0) ≡ false → refused 3 0 ≡ read_table s
     unfolding read_table
     table_no_facts f = rw (← e, f)
 

@@ -16,7 +16,7 @@ use Rattle.refusal.specs.Checked.{Checked, accepted, refused, and_then}
 use Rattle.refusal.specs.CheckedLaws.{not_both, accepted_same, accepted_then, accepted_if}
 use Rattle.commands.specs.declared.Found.TheVariants.{Whole}
 use Rattle.commands.specs.declared.Width.TheVariants.{Bytes}
-use Rattle.commands.specs.Commands.{FACTS, JOB, PAIREDJOB, GOAL, ENDOFTABLE, FACTSSIZE, GOALSIZE, ENDOFTABLESIZE, OPERANDSAT, Past, width_of, command_at}
+use Rattle.commands.specs.Commands.{FACTS, JOB, PAIRED_JOB, GOAL, END_OF_TABLE, FACTS_SIZE, GOAL_SIZE, END_OF_TABLE_SIZE, OPERANDS_AT, Past, width_of, command_at}
 use Rattle.commands.specs.CommandLaws.{at_whole}
 use Rattle.numbers.specs.Numbers.{AreBytes, to_bytes, number_at}
 use Rattle.numbers.specs.NumberLaws.{from_to, to_length, read_drop, number_lt, byte_there, number_there}
@@ -53,13 +53,13 @@ module _ (stage : Stage) (s ops rest : List ℕ) (at byte w next : ℕ) (e : dro
 
 -- ---- reading what was written
 
-goal_number : (goal : ℕ) → goal < 2 ^ 64 → number_at 8 (goal_bytes goal) OPERANDSAT ≡ goal
+goal_number : (goal : ℕ) → goal < 2 ^ 64 → number_at 8 (goal_bytes goal) OPERANDS_AT ≡ goal
 unfolding goal_bytes number_at to_bytes
 goal_number goal h = from_to 8 goal h
 
-goal_due : (s : List ℕ) (goal at : ℕ) → drop at s ≡ goal_bytes goal → accepted (record { value = GOAL; next = at + GOALSIZE }) ≡ due Middle s at
+goal_due : (s : List ℕ) (goal at : ℕ) → drop at s ≡ goal_bytes goal → accepted (record { value = GOAL; next = at + GOAL_SIZE }) ≡ due Middle s at
 unfolding goal_bytes width_of
-goal_due s goal at e = due_here Middle s (to_bytes 8 goal) (ENDOFTABLE ∷ []) at GOAL _ _ e (to_length 8 goal) refl refl (omega arith)
+goal_due s goal at e = due_here Middle s (to_bytes 8 goal) (END_OF_TABLE ∷ []) at GOAL _ _ e (to_length 8 goal) refl refl (omega arith)
 
 job_allowed : (paired : Bool) → allowed Middle (command_by paired) ≡ true
 job_allowed false = refl
@@ -71,28 +71,28 @@ due_job s rest at j e =
     due_here Middle s (operands_by j.paired j) rest at (command_by j.paired) _ _ e refl (by_width j.paired j) (job_allowed j.paired)
     (omega (arith, job_size_is j, by_size j.paired j))
 
-facts_due : (t : Table) → accepted (record { value = FACTS; next = FACTSSIZE }) ≡ due First (table_bytes t) 0
+facts_due : (t : Table) → accepted (record { value = FACTS; next = FACTS_SIZE }) ≡ due First (table_bytes t) 0
 unfolding table_bytes width_of
 facts_due t = due_here First (table_bytes t) (t.facts ∷ []) (jobs_bytes t.jobs ++ goal_bytes t.goal) 0 FACTS _ _ refl refl refl refl refl
 
 no_goal : (paired : Bool) → command_by paired ≡ GOAL → ⊥
 no_goal false = eqb-false JOB GOAL refl
-no_goal true = eqb-false PAIREDJOB GOAL refl
+no_goal true = eqb-false PAIRED_JOB GOAL refl
 
 module _ (s : List ℕ) (facts goal : ℕ) (fits : goal < 2 ^ 64) where
   table_with : List Job → Table
   table_with js = record { facts = facts; jobs = js; goal = goal }
 
   read_goal_is : (js : List Job) (at : ℕ) → drop at s ≡ goal_bytes goal
-      → read_goal s facts js at (at + GOALSIZE) ≡ (if within facts goal then accepted (record { facts = facts; jobs = js; goal = goal }) else refused 5 at)
+      → read_goal s facts js at (at + GOAL_SIZE) ≡ (if within facts goal then accepted (record { facts = facts; jobs = js; goal = goal }) else refused 5 at)
   unfolding goal_bytes to_bytes width_of read_goal table_with
   read_goal_is js at e =
-      let tail : drop (at + GOALSIZE) s ≡ ENDOFTABLE ∷ [] = drop_next s (GOAL ∷ to_bytes 8 goal) (ENDOFTABLE ∷ []) at GOALSIZE e refl in
-      let size : length s - at ≡ GOALSIZE + ENDOFTABLESIZE = sym (length-drop at s) ∙ ap length e in
-      let value : number_at 8 s (at + OPERANDSAT) ≡ goal = read_drop 8 s at OPERANDSAT ∙ ap (λ (l : List ℕ). number_at 8 l OPERANDSAT) e ∙ goal_number goal fits in
+      let tail : drop (at + GOAL_SIZE) s ≡ END_OF_TABLE ∷ [] = drop_next s (GOAL ∷ to_bytes 8 goal) (END_OF_TABLE ∷ []) at GOAL_SIZE e refl in
+      let size : length s - at ≡ GOAL_SIZE + END_OF_TABLE_SIZE = sym (length-drop at s) ∙ ap length e in
+      let value : number_at 8 s (at + OPERANDS_AT) ≡ goal = read_drop 8 s at OPERANDS_AT ∙ ap (λ (l : List ℕ). number_at 8 l OPERANDS_AT) e ∙ goal_number goal fits in
       rw value
       (ap (λ x. if within facts goal then x else refused 5 at)
-      (sym (end_whole s (table_with js) (at + GOALSIZE) _ (due_here Last s [] [] (at + GOALSIZE) ENDOFTABLE _ _ tail refl refl refl refl) (omega arith))))
+      (sym (end_whole s (table_with js) (at + GOAL_SIZE) _ (due_here Last s [] [] (at + GOAL_SIZE) END_OF_TABLE _ _ tail refl refl refl refl) (omega arith))))
 
   read_jobs_are : (left : ℕ) (ks : List Job) (js : List Job) (at : ℕ) → ((i : ℕ) → StorableJob (get_or ks i no_job)) → drop at s ≡ jobs_bytes ks ++ goal_bytes goal
       → read_jobs s facts left js at ≡ validated_from facts goal left js ks at
@@ -121,9 +121,9 @@ unfolding validated_table table_bytes
 read_written t h = by_facts (facts_in_range t.facts) refl
   where
     by_facts : (b : Bool) → facts_in_range t.facts ≡ b
-        → read_table (table_bytes t) ≡ (if b then validated_from t.facts t.goal max_jobs [] t.jobs FACTSSIZE else refused 3 0)
+        → read_table (table_bytes t) ≡ (if b then validated_from t.facts t.goal max_jobs [] t.jobs FACTS_SIZE else refused 3 0)
     by_facts true f =
-        sym (table_facts (table_bytes t) _ (facts_due t) f) ∙ read_jobs_are (table_bytes t) t.facts t.goal h.goal_fits max_jobs t.jobs [] FACTSSIZE h.jobs_fit refl
+        sym (table_facts (table_bytes t) _ (facts_due t) f) ∙ read_jobs_are (table_bytes t) t.facts t.goal h.goal_fits max_jobs t.jobs [] FACTS_SIZE h.jobs_fit refl
     by_facts false f = sym (table_no_facts (table_bytes t) _ (facts_due t) f)
 
 -- ---- what the checks leave
@@ -159,7 +159,7 @@ pub validated_table_sound : (t u : Table) → validated_table t ≡ accepted u �
 unfolding validated_table
 validated_table_sound t u e =
     let r = accepted_if (facts_in_range t.facts) _ 3 0 u e in
-    let q = validated_from_sound t.facts t.goal max_jobs [] t.jobs FACTSSIZE u r.1 in
+    let q = validated_from_sound t.facts t.goal max_jobs [] t.jobs FACTS_SIZE u r.1 in
     (q.is_table, record { facts_range_held = r.0; few = q.few; sound_jobs = q.sound_jobs; sound_goal = q.sound_goal })
 
 sound_from : (facts goal left : ℕ) (js ks : List Job) (at : ℕ) → length ks ≤ left → ((i : ℕ) → i < length ks → SoundJob facts (get_or ks i no_job)) → within facts goal ≡ true
@@ -179,8 +179,8 @@ pub read_back : (t : Table) → Storable t → Sound t → read_table (table_byt
 unfolding validated_table
 read_back t h s =
     read_written t h
-    ∙ ap (λ (b : Bool). if b then validated_from t.facts t.goal max_jobs [] t.jobs FACTSSIZE else refused 3 0) s.facts_range_held
-    ∙ sound_from t.facts t.goal max_jobs [] t.jobs FACTSSIZE s.few s.sound_jobs s.sound_goal
+    ∙ ap (λ (b : Bool). if b then validated_from t.facts t.goal max_jobs [] t.jobs FACTS_SIZE else refused 3 0) s.facts_range_held
+    ∙ sound_from t.facts t.goal max_jobs [] t.jobs FACTS_SIZE s.few s.sound_jobs s.sound_goal
 
 -- and no other is ever read from them.
 pub read_only : (t u : Table) → Storable t → read_table (table_bytes t) ≡ accepted u → (t ≡ u) × Sound t
@@ -193,13 +193,13 @@ no_job_fits =
     record { needs_fit = omega arith; absent_fit = omega arith; adds_fit = omega arith; deletes_fit = omega arith; seconds_fit = omega arith; unpaired = λ e. refl }
 
 module _ (s : List ℕ) (b : AreBytes s) where
-  written_goal : (at : ℕ) → get_or s at 0 ≡ GOAL → get_or s (at + GOALSIZE) 0 ≡ ENDOFTABLE → at + GOALSIZE + ENDOFTABLESIZE ≡ length s
-      → goal_bytes (number_at 8 s (at + OPERANDSAT)) ≡ drop at s
+  written_goal : (at : ℕ) → get_or s at 0 ≡ GOAL → get_or s (at + GOAL_SIZE) 0 ≡ END_OF_TABLE → at + GOAL_SIZE + END_OF_TABLE_SIZE ≡ length s
+      → goal_bytes (number_at 8 s (at + OPERANDS_AT)) ≡ drop at s
   unfolding goal_bytes
   written_goal at e f l =
       let none : drop (length s) s ≡ [] = drop_of_length-le s {i = length s} (omega arith) in
-      let last : ENDOFTABLE ∷ [] ≡ drop (at + GOALSIZE) s = rw (← f, ← none) (byte_there s (at + GOALSIZE) (length s) l (omega arith)) in
-      rw (last, number_there s b 8 (at + OPERANDSAT) (at + GOALSIZE) (omega arith) (omega arith), ← e) (byte_there s at (at + OPERANDSAT) refl (omega arith))
+      let last : END_OF_TABLE ∷ [] ≡ drop (at + GOAL_SIZE) s = rw (← f, ← none) (byte_there s (at + GOAL_SIZE) (length s) l (omega arith)) in
+      rw (last, number_there s b 8 (at + OPERANDS_AT) (at + GOAL_SIZE) (omega arith) (omega arith), ← e) (byte_there s at (at + OPERANDS_AT) refl (omega arith))
 
   -- what stands from an offset on, where reading goes on to the end
   record Rest (facts : ℕ) (js : List Job) (at : ℕ) (t : Table) : Type 0 where
@@ -210,23 +210,23 @@ module _ (s : List ℕ) (b : AreBytes s) where
     jobs_fit : (i : ℕ) → StorableJob (get_or ks i no_job)
     goal_fits : goal < 2 ^ 64
 
-  end_there : (at : ℕ) (c : Past ℕ) → due Last s at ≡ accepted c → (get_or s at 0 ≡ ENDOFTABLE) × (c.next ≡ at + ENDOFTABLESIZE)
+  end_there : (at : ℕ) (c : Past ℕ) → due Last s at ≡ accepted c → (get_or s at 0 ≡ END_OF_TABLE) × (c.next ≡ at + END_OF_TABLE_SIZE)
   end_there at c e = let d = due_told Last s at c (sym e) in (d.whole.is_byte ∙ eqb-true _ _ d.fits, (end_inside s at c (sym e)).0)
 
-  rest_goal : (facts : ℕ) (js : List Job) (at : ℕ) (t : Table) → get_or s at 0 ≡ GOAL → read_goal s facts js at (at + GOALSIZE) ≡ accepted t → Rest facts js at t
+  rest_goal : (facts : ℕ) (js : List Job) (at : ℕ) (t : Table) → get_or s at 0 ≡ GOAL → read_goal s facts js at (at + GOAL_SIZE) ≡ accepted t → Rest facts js at t
   unfolding read_goal read_end jobs_bytes
   rest_goal facts js at t e q =
-      let g = accepted_if (within facts (number_at 8 s (at + OPERANDSAT))) _ 5 at t q in
-      let c = accepted_then (due Last s (at + GOALSIZE)) _ t g.1 in
-      let d = end_there (at + GOALSIZE) c.0 c.1 in
+      let g = accepted_if (within facts (number_at 8 s (at + OPERANDS_AT))) _ 5 at t q in
+      let c = accepted_then (due Last s (at + GOAL_SIZE)) _ t g.1 in
+      let d = end_there (at + GOAL_SIZE) c.0 c.1 in
       let l = accepted_if (eqb c.0.next (length s)) _ 7 c.0.next t c.2 in
       record {
         ks = [];
-        goal = number_at 8 s (at + OPERANDSAT);
+        goal = number_at 8 s (at + OPERANDS_AT);
         is_table = rw append-nil (accepted_same l.1);
         there = written_goal at e d.0 (omega (arith, d.1, eqb-true c.0.next (length s) l.0));
         jobs_fit = λ i. no_job_fits;
-        goal_fits = number_lt 8 s (at + OPERANDSAT) b;
+        goal_fits = number_lt 8 s (at + OPERANDS_AT) b;
       }
 
   module _ (facts : ℕ) (js : List Job) (at : ℕ) (t : Table) (c : Past ℕ) (e : due Middle s at ≡ accepted c) where
@@ -273,14 +273,14 @@ module _ (s : List ℕ) (b : AreBytes s) where
     unfolding read_table table_bytes
     table_there =
         let c = accepted_then (due First s 0) _ t q in
-        let f = accepted_if (facts_in_range (get_or s OPERANDSAT 0)) _ 3 0 t c.2 in
+        let f = accepted_if (facts_in_range (get_or s OPERANDS_AT 0)) _ 3 0 t c.2 in
         let d = due_told First s 0 c.0 (sym c.1) in
         let n = facts_inside s 0 c.0 (sym c.1) in
-        let r : Rest (get_or s OPERANDSAT 0) [] FACTSSIZE t = rest_jobs (get_or s OPERANDSAT 0) max_jobs [] FACTSSIZE t (rw n.0 at f.1) in
+        let r : Rest (get_or s OPERANDS_AT 0) [] FACTS_SIZE t = rest_jobs (get_or s OPERANDS_AT 0) max_jobs [] FACTS_SIZE t (rw n.0 at f.1) in
         let byte : get_or s 0 0 ≡ FACTS = d.whole.is_byte ∙ eqb-true c.0.value FACTS d.fits in
         rw (← r.is_table) (
-          rw (r.there, ← byte, byte_there s OPERANDSAT FACTSSIZE refl n.1) (byte_there s 0 OPERANDSAT refl (omega (arith, n.1))),
-          record { facts_fit = b OPERANDSAT; jobs_fit = r.jobs_fit; goal_fits = r.goal_fits },
+          rw (r.there, ← byte, byte_there s OPERANDS_AT FACTS_SIZE refl n.1) (byte_there s 0 OPERANDS_AT refl (omega (arith, n.1))),
+          record { facts_fit = b OPERANDS_AT; jobs_fit = r.jobs_fit; goal_fits = r.goal_fits },
         )
 
     -- Writing what was read gives the bytes back.

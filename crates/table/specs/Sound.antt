@@ -4,7 +4,7 @@ use Rattle.std.specs.Prelude.{ℕ, zero, suc, ◌+◌, ◌^◌, ◌≤◌, ◌<�
 use Rattle.base.specs.Bools.{if◌then◌else◌}
 use Rattle.masks.specs.Sets.{within}
 use Rattle.refusal.specs.Checked.{Checked, accepted, refused, and_then}
-use Rattle.commands.specs.Commands.{FACTSSIZE}
+use Rattle.commands.specs.Commands.{FACTS_SIZE}
 use Rattle.job.specs.declared.Job.{Job}
 use Rattle.job.specs.Job.{no_job, job_size, StorableJob}
 use Rattle.job.specs.Validation.{validated_job, SoundJob}
@@ -30,4 +30,4 @@ validated_from facts goal zero js (k ∷ ks) at = refused 4 at
 validated_from facts goal (suc left) js (k ∷ ks) at = and_then (validated_job facts at k) λ j. validated_from facts goal left (js ++ (j ∷ [])) ks (at + job_size k)
 
 unfoldable pub validated_table : Table → Checked Table
-validated_table t = if facts_in_range t.facts then validated_from t.facts t.goal max_jobs [] t.jobs FACTSSIZE else refused 3 0
+validated_table t = if facts_in_range t.facts then validated_from t.facts t.goal max_jobs [] t.jobs FACTS_SIZE else refused 3 0

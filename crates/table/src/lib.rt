@@ -1,9 +1,10 @@
 // The job table, read from bytes, with every check that the papers make of a table (document 01, "Commands" and "Stops, in
 // checking order", 1 to 7; document 02, W3, 19, and W10, 22).
 #![tactic(auto)]
+
 ghost use Rattle.std.specs.Prelude.{◌≡◌, ◌+◌, ◌≤◌, ◌<◌, length, get_or, ◌||◌, List, []};
 ghost use Rattle.refusal.specs.Checked.{accepted, and_then};
-ghost use Rattle.commands.specs.Commands.{GOAL-SIZE};
+ghost use Rattle.commands.specs.Commands.{GOAL_SIZE};
 ghost use Rattle.job.specs.Job.{no_job};
 ghost use Rattle.table.specs.Table.{Table, max_jobs, has_pair};
 ghost use Rattle.table.specs.Read.{allowed, due, due_of, facts_in_range, read_end, read_goal, read_jobs, read_table, jobs_of, named_job, header_of, headed, table_read_of, job_read_of};
@@ -119,7 +120,7 @@ fn read_end(s: &[u8], header: Header, at: usize) -> TableRead
 
 // GOAL at an offset, whose operand ends before `next`, after as many jobs.
 fn read_goal(s: &[u8], facts: u8, jobs: usize, paired: bool, at: usize, next: usize) -> TableRead
-    requires { at + GOAL-SIZE ≤ length s.now }
+    requires { at + GOAL_SIZE ≤ length s.now }
     ensures { (js : List Job) → length js ≡ jobs → has_pair js ≡ paired → table_read_of result ≡ headed (read_goal s.now facts js at next) }
 {
     let goal = numbers::read_u64(s, at + commands::OPERANDS_AT);

@@ -8,7 +8,7 @@ use Rattle.base.specs.Bools.{if◌then◌else◌}
 use Rattle.base.specs.Lists.{prefix}
 use Rattle.refusal.specs.Numbers.{number_of}
 use Rattle.refusal.specs.Checked.{Checked, accepted, refused, refused_by, and_then}
-use Rattle.commands.specs.Commands.{JOB, PAIREDJOB}
+use Rattle.commands.specs.Commands.{JOB, PAIRED_JOB}
 use Rattle.job.specs.declared.Job.{Job}
 use Rattle.table.specs.Table.{Table, table_bytes, goal_offset}
 use Rattle.table.specs.Read.{read_table}
@@ -33,7 +33,7 @@ columns_of commands needs absent adds deletes seconds =
 
 -- a 0x21 has a place for any absent facts, a 0x20 for none, and no other command is a job's
 abbrev pub writable : (command absent : ℕ) → Bool
-writable command absent = eqb command PAIREDJOB || (eqb command JOB && eqb absent 0)
+writable command absent = eqb command PAIRED_JOB || (eqb command JOB && eqb absent 0)
 
 -- of so many rows from row i on, the first that no command's bytes can hold
 unfoldable pub unwritable_from : (commands absent : List ℕ) (count i : ℕ) → FoundRow
@@ -61,7 +61,7 @@ module _ (c : JobColumns) where
         adds = get_or c.adds i 0;
         deletes = get_or c.deletes i 0;
         seconds = get_or c.seconds i 0;
-        paired = eqb (get_or c.commands i 0) PAIREDJOB;
+        paired = eqb (get_or c.commands i 0) PAIRED_JOB;
       }
 
   -- the jobs of all rows

@@ -18,7 +18,7 @@ use Rattle.masks.specs.Sets.{within}
 use Rattle.refusal.specs.declared.Refusal.{Refusal}
 use Rattle.refusal.specs.Checked.{Checked, accepted, refused, refused_by}
 use Rattle.refusal.specs.CheckedLaws.{not_both, accepted_same}
-use Rattle.commands.specs.Commands.{FACTS, JOB, PAIREDJOB, GOAL, ENDOFTABLE, FACTSSIZE, PAIREDJOBSIZE, GOALSIZE, ENDOFTABLESIZE, OPERANDSAT, ABSENTAT, ADDSAT, PAIREDADDSAT, MASKWIDTH}
+use Rattle.commands.specs.Commands.{FACTS, JOB, PAIRED_JOB, GOAL, END_OF_TABLE, FACTS_SIZE, PAIRED_JOB_SIZE, GOAL_SIZE, END_OF_TABLE_SIZE, OPERANDS_AT, ABSENT_AT, ADDS_AT, PAIRED_ADDS_AT, MASK_WIDTH}
 use Rattle.numbers.specs.Numbers.{to_bytes}
 use Rattle.numbers.specs.NumberLaws.{sets_after, to_length}
 use Rattle.job.specs.declared.Job.{Job}
@@ -97,7 +97,7 @@ module _ (commands absent : List ℕ) where
       rw z (all_writable count (suc i) k (nowhere_if (writable (get_or commands i 0) (get_or absent i 0)) _ i e).1 (omega arith))
 
 -- a job that is no 0x21 has no absent facts
-pub plain_absent : (command absent : ℕ) → writable command absent ≡ true → eqb command PAIREDJOB ≡ false → absent ≡ 0
+pub plain_absent : (command absent : ℕ) → writable command absent ≡ true → eqb command PAIRED_JOB ≡ false → absent ≡ 0
 plain_absent command absent e p =
     let plain : (eqb command JOB && eqb absent 0) ≡ true = rw p at e in
     eqb-true absent 0 (is_true _ (and_right (eqb command JOB) _ (holds _ plain)))
@@ -105,46 +105,46 @@ plain_absent command absent e p =
 -- ---- stores, one run after another
 
 effects_written : (l : List ℕ) (at : ℕ) (j : Job)
-    → sets (sets (sets l at (to_bytes 8 j.adds)) (at + MASKWIDTH) (to_bytes 8 j.deletes)) (at + MASKWIDTH + MASKWIDTH) (to_bytes 2 j.seconds) ≡ sets l at (effect_bytes j)
+    → sets (sets (sets l at (to_bytes 8 j.adds)) (at + MASK_WIDTH) (to_bytes 8 j.deletes)) (at + MASK_WIDTH + MASK_WIDTH) (to_bytes 2 j.seconds) ≡ sets l at (effect_bytes j)
 effects_written l at j =
     rw (
-      sets_after l (to_bytes 8 j.adds) (to_bytes 8 j.deletes) at (at + MASKWIDTH) (omega (arith, to_length 8 j.adds)),
-      sets_after l (to_bytes 8 j.adds ++ to_bytes 8 j.deletes) (to_bytes 2 j.seconds) at (at + MASKWIDTH + MASKWIDTH)
+      sets_after l (to_bytes 8 j.adds) (to_bytes 8 j.deletes) at (at + MASK_WIDTH) (omega (arith, to_length 8 j.adds)),
+      sets_after l (to_bytes 8 j.adds ++ to_bytes 8 j.deletes) (to_bytes 2 j.seconds) at (at + MASK_WIDTH + MASK_WIDTH)
           (omega (arith, to_length 8 j.adds, to_length 8 j.deletes, length-append (to_bytes 8 j.adds) (to_bytes 8 j.deletes))),
     )
     (simp append_assoc)
 
 pub effects_stored : (l adds deletes out : List ℕ) (at : ℕ) (j : Job) → adds ≡ sets l at (to_bytes 8 j.adds)
-    → deletes ≡ sets adds (at + MASKWIDTH) (to_bytes 8 j.deletes) → out ≡ sets deletes (at + MASKWIDTH + MASKWIDTH) (to_bytes 2 j.seconds) → out ≡ sets l at (effect_bytes j)
+    → deletes ≡ sets adds (at + MASK_WIDTH) (to_bytes 8 j.deletes) → out ≡ sets deletes (at + MASK_WIDTH + MASK_WIDTH) (to_bytes 2 j.seconds) → out ≡ sets l at (effect_bytes j)
 effects_stored l adds deletes out at j a d s = rw (s, d, a) (effects_written l at j)
 
 -- the bytes of a job of either kind, after its command's byte and its needs
-module _ (l needs : List ℕ) (at command : ℕ) (j : Job) (n : needs ≡ sets (set l at command) (at + OPERANDSAT) (to_bytes 8 j.needs)) (c : command ≡ command_by j.paired) where
+module _ (l needs : List ℕ) (at command : ℕ) (j : Job) (n : needs ≡ sets (set l at command) (at + OPERANDS_AT) (to_bytes 8 j.needs)) (c : command ≡ command_by j.paired) where
   begun : needs ≡ sets l at (command ∷ to_bytes 8 j.needs)
-  begun = n ∙ sets_after l (command ∷ []) (to_bytes 8 j.needs) at (at + OPERANDSAT) refl
+  begun = n ∙ sets_after l (command ∷ []) (to_bytes 8 j.needs) at (at + OPERANDS_AT) refl
 
   -- what is stored after them closes the job
-  closed : (rest out : List ℕ) → out ≡ sets needs (at + ADDSAT) rest → to_bytes 8 j.needs ++ rest ≡ operands_by j.paired j → out ≡ sets l at (job_bytes j)
+  closed : (rest out : List ℕ) → out ≡ sets needs (at + ADDS_AT) rest → to_bytes 8 j.needs ++ rest ≡ operands_by j.paired j → out ≡ sets l at (job_bytes j)
   unfolding job_bytes
   closed rest out o e =
       o
-      ∙ rw (begun, sets_after l (command ∷ to_bytes 8 j.needs) rest at (at + ADDSAT) (omega (arith, to_length 8 j.needs)), c, e)
+      ∙ rw (begun, sets_after l (command ∷ to_bytes 8 j.needs) rest at (at + ADDS_AT) (omega (arith, to_length 8 j.needs)), c, e)
 
-  pub plain_stored : (out : List ℕ) → j.paired ≡ false → out ≡ sets needs (at + ADDSAT) (effect_bytes j) → out ≡ sets l at (job_bytes j)
+  pub plain_stored : (out : List ℕ) → j.paired ≡ false → out ≡ sets needs (at + ADDS_AT) (effect_bytes j) → out ≡ sets l at (job_bytes j)
   plain_stored out p o = closed (effect_bytes j) out o (rw p)
 
-  pub paired_stored : (absent out : List ℕ) → j.paired ≡ true → absent ≡ sets needs (at + ABSENTAT) (to_bytes 8 j.absent) → out ≡ sets absent (at + PAIREDADDSAT) (effect_bytes j)
+  pub paired_stored : (absent out : List ℕ) → j.paired ≡ true → absent ≡ sets needs (at + ABSENT_AT) (to_bytes 8 j.absent) → out ≡ sets absent (at + PAIRED_ADDS_AT) (effect_bytes j)
       → out ≡ sets l at (job_bytes j)
   paired_stored absent out p a o =
       closed (to_bytes 8 j.absent ++ effect_bytes j) out
-      (o ∙ rw (a, sets_after needs (to_bytes 8 j.absent) (effect_bytes j) (at + ABSENTAT) (at + PAIREDADDSAT) (omega (arith, to_length 8 j.absent))))
+      (o ∙ rw (a, sets_after needs (to_bytes 8 j.absent) (effect_bytes j) (at + ABSENT_AT) (at + PAIRED_ADDS_AT) (omega (arith, to_length 8 j.absent))))
       (rw p)
 
-pub goal_written : (l : List ℕ) (at goal : ℕ) → set (sets (set l at GOAL) (at + OPERANDSAT) (to_bytes 8 goal)) (at + GOALSIZE) ENDOFTABLE ≡ sets l at (goal_bytes goal)
+pub goal_written : (l : List ℕ) (at goal : ℕ) → set (sets (set l at GOAL) (at + OPERANDS_AT) (to_bytes 8 goal)) (at + GOAL_SIZE) END_OF_TABLE ≡ sets l at (goal_bytes goal)
 unfolding goal_bytes
 goal_written l at goal =
-    rw (sets_after l (GOAL ∷ []) (to_bytes 8 goal) at (at + OPERANDSAT) refl)
-    (sets_after l (GOAL ∷ to_bytes 8 goal) (ENDOFTABLE ∷ []) at (at + GOALSIZE) (omega (arith, to_length 8 goal)))
+    rw (sets_after l (GOAL ∷ []) (to_bytes 8 goal) at (at + OPERANDS_AT) refl)
+    (sets_after l (GOAL ∷ to_bytes 8 goal) (END_OF_TABLE ∷ []) at (at + GOAL_SIZE) (omega (arith, to_length 8 goal)))
 
 -- where the job after a row stands
 pub row_ends : (js : List Job) (row : Job) (i at : ℕ) → i < length js → at ≡ offset_of js i → row ≡ get_or js i no_job → at + job_size row ≡ offset_of js (i + 1)
@@ -152,27 +152,27 @@ row_ends js row i at h e r = rw (r, e, add-one i) (sym (next_offset js i h))
 
 -- one job more in the lent slice
 pub row_written : (js : List Job) (l out : List ℕ) (row : Job) (i at : ℕ) → i < length js → at ≡ offset_of js i → row ≡ get_or js i no_job
-    → out ≡ sets l FACTSSIZE (jobs_bytes (take i js)) → sets out at (job_bytes row) ≡ sets l FACTSSIZE (jobs_bytes (take (i + 1) js))
+    → out ≡ sets l FACTS_SIZE (jobs_bytes (take i js)) → sets out at (job_bytes row) ≡ sets l FACTS_SIZE (jobs_bytes (take (i + 1) js))
 unfolding offset_of
 row_written js l out row i at h e r o =
     rw (o, r, add-one i, take-suc js i no_job h, jobs_snoc (take i js) (get_or js i no_job))
-    (sets_after l (jobs_bytes (take i js)) (job_bytes (get_or js i no_job)) FACTSSIZE at (sym e))
+    (sets_after l (jobs_bytes (take i js)) (job_bytes (get_or js i no_job)) FACTS_SIZE at (sym e))
 
-goal_length : (goal : ℕ) → length (goal_bytes goal) ≡ GOALSIZE + ENDOFTABLESIZE
+goal_length : (goal : ℕ) → length (goal_bytes goal) ≡ GOAL_SIZE + END_OF_TABLE_SIZE
 unfolding goal_bytes to_bytes
 goal_length goal = refl
 
-table_length : (t : Table) → length (table_bytes t) ≡ goal_offset t + GOALSIZE + ENDOFTABLESIZE
+table_length : (t : Table) → length (table_bytes t) ≡ goal_offset t + GOAL_SIZE + END_OF_TABLE_SIZE
 unfolding table_bytes goal_offset
 table_length t = omega (arith, length-append (jobs_bytes t.jobs) (goal_bytes t.goal), goal_length t.goal)
 
-pub table_written : (l jobs out : List ℕ) (t : Table) (at size : ℕ) → at ≡ goal_offset t → at + GOALSIZE + ENDOFTABLESIZE ≡ size → size ≤ length l
-    → jobs ≡ sets (set (set l 0 FACTS) OPERANDSAT t.facts) FACTSSIZE (jobs_bytes t.jobs) → out ≡ sets jobs at (goal_bytes t.goal) → out ≡ table_bytes t ++ drop size l
+pub table_written : (l jobs out : List ℕ) (t : Table) (at size : ℕ) → at ≡ goal_offset t → at + GOAL_SIZE + END_OF_TABLE_SIZE ≡ size → size ≤ length l
+    → jobs ≡ sets (set (set l 0 FACTS) OPERANDS_AT t.facts) FACTS_SIZE (jobs_bytes t.jobs) → out ≡ sets jobs at (goal_bytes t.goal) → out ≡ table_bytes t ++ drop size l
 unfolding table_bytes goal_offset
 table_written l jobs out t at size e z h j g =
     let all : 0 + length (table_bytes t) ≡ size = omega (arith, table_length t) in
     g
-    ∙ rw j (sets_after (set (set l 0 FACTS) OPERANDSAT t.facts) (jobs_bytes t.jobs) (goal_bytes t.goal) FACTSSIZE at (sym e))
+    ∙ rw j (sets_after (set (set l 0 FACTS) OPERANDS_AT t.facts) (jobs_bytes t.jobs) (goal_bytes t.goal) FACTS_SIZE at (sym e))
     ∙ sets-eq (table_bytes t) l 0 (omega (arith, all))
     ∙ ap (λ (k : ℕ). table_bytes t ++ drop k l) all
 
@@ -217,7 +217,7 @@ module _ (t : Table) where
   unfolding validated_table
   validated_no_facts e = rw e
 
-  pub validated_facts : facts_in_range t.facts ≡ true → remaining t.facts t.goal t.jobs 0 FACTSSIZE ≡ validated_table t
+  pub validated_facts : facts_in_range t.facts ≡ true → remaining t.facts t.goal t.jobs 0 FACTS_SIZE ≡ validated_table t
   unfolding validated_table
   validated_facts e = rw e
 
@@ -230,7 +230,7 @@ pub record Passed (t : Table) (at : ℕ) : Type 0 where
   pub is_sound : accepted t ≡ validated_table t
   pub is_place : at ≡ goal_offset t
   pub facts_fit : t.facts ≤ max_facts
-  pub is_small : at ≤ FACTSSIZE + PAIREDJOBSIZE * max_jobs
+  pub is_small : at ≤ FACTS_SIZE + PAIRED_JOB_SIZE * max_jobs
 
 pub placed_sound : (t : Table) (at : ℕ) → accepted at ≡ placed (validated_table t) → Passed t at
 placed_sound t at e = by (validated_table t) refl e
@@ -325,7 +325,7 @@ module _ (c : JobColumns) (facts goal : ℕ) (l : List ℕ) (fits : first_unwrit
       unfolding writing
       wrote_unsound x j = wrote (TableWritten.Refused x) l (rw (e, w, ← j)) refl
 
-      module _ (at size : ℕ) (j : Passed (table_of c facts goal) at) (z : at + GOALSIZE + ENDOFTABLESIZE ≡ size) where
+      module _ (at size : ℕ) (j : Passed (table_of c facts goal) at) (z : at + GOAL_SIZE + END_OF_TABLE_SIZE ≡ size) where
         is_size : length (table_bytes (table_of c facts goal)) ≡ size
         is_size = omega (arith, table_length (table_of c facts goal), j.is_place)
 

@@ -3,7 +3,7 @@
 #![tactic(auto)]
 ghost use Rattle.std.specs.Prelude.{◌≡◌, ◌+◌, ◌≤◌, ◌<◌, true, length};
 ghost use Rattle.std.proofs.lemmas.List.Edits.{sets};
-ghost use Rattle.commands.specs.Commands.{FACTS-SIZE, GOAL-SIZE, END-OF-TABLE-SIZE, EFFECTS-WIDTH};
+ghost use Rattle.commands.specs.Commands.{FACTS_SIZE, GOAL_SIZE, END_OF_TABLE_SIZE, EFFECTS_WIDTH};
 ghost use Rattle.job.specs.Job.{effect_bytes, job_bytes, job_size};
 ghost use Rattle.table.specs.Table.{jobs_bytes, goal_bytes};
 ghost use Rattle.table.specs.Sound.{validated_table};
@@ -170,8 +170,8 @@ fn validate_table(
 
 // The adds, deletes and seconds of a job, with which one of either kind closes; the offset past them.
 fn put_effects(out: &mut [u8], at: usize, job: Job) -> usize
-    requires { at + EFFECTS-WIDTH ≤ length out.old }
-    ensures { (result ≡ at + EFFECTS-WIDTH) × (out.new ≡ sets out.old at (effect_bytes job)) }
+    requires { at + EFFECTS_WIDTH ≤ length out.old }
+    ensures { (result ≡ at + EFFECTS_WIDTH) × (out.new ≡ sets out.old at (effect_bytes job)) }
 {
     numbers::write_u64(out, at, job.adds);
     numbers::write_u64(out, at + commands::MASK_WIDTH, job.deletes);
@@ -208,8 +208,8 @@ fn put_jobs(
     out: &mut [u8],
 )
     requires { (even (columns_of commands.now needs.now absent.now adds.now deletes.now seconds.now) ≡ true)
-        × (FACTS-SIZE + length (jobs_bytes (rows (columns_of commands.now needs.now absent.now adds.now deletes.now seconds.now))) ≤ length out.old) }
-    ensures { out.new ≡ sets out.old FACTS-SIZE (jobs_bytes (rows
+        × (FACTS_SIZE + length (jobs_bytes (rows (columns_of commands.now needs.now absent.now adds.now deletes.now seconds.now))) ≤ length out.old) }
+    ensures { out.new ≡ sets out.old FACTS_SIZE (jobs_bytes (rows
         (columns_of commands.now needs.now absent.now adds.now deletes.now seconds.now))) }
 {
     let mut at: usize = commands::FACTS_SIZE;
@@ -225,7 +225,7 @@ fn put_jobs(
 }
 
 fn put_goal(out: &mut [u8], at: usize, goal: u64)
-    requires { at + GOAL-SIZE + END-OF-TABLE-SIZE ≤ length out.old }
+    requires { at + GOAL_SIZE + END_OF_TABLE_SIZE ≤ length out.old }
     ensures { out.new ≡ sets out.old at (goal_bytes goal) }
 {
     out[at] = commands::GOAL;

@@ -3,7 +3,7 @@
 use Rattle.std.specs.Prelude.{ℕ, zero, suc, ◌≡◌, refl, List, [], ◌∷◌, ◌++◌, map}
 use Rattle.masks.specs.Sets.{subset, intersects, union, within}
 use Rattle.refusal.specs.Checked.{accepted, refused}
-use Rattle.commands.specs.Commands.{FACTS, GOAL, ENDOFTABLE, FALLBACK, SEQUENCE, CONDITION, JOBLEAF, PAIR, WAITING, ENDOFTREE, MASKWIDTH, width_of, command_at}
+use Rattle.commands.specs.Commands.{FACTS, GOAL, END_OF_TABLE, FALLBACK, SEQUENCE, CONDITION, JOB_LEAF, PAIR, WAITING, END_OF_TREE, MASK_WIDTH, width_of, command_at}
 use Rattle.numbers.specs.Numbers.{from_bytes, to_bytes, number_at}
 use Rattle.reading.specs.declared.Reading.{Reading}
 use Rattle.reading.specs.Reading.{sound, checked_at}
@@ -15,13 +15,13 @@ use Rattle.tree.specs.Tick.{tick_by}
 use Rattle.tree.specs.TickBytes.{tick_checked, tick_bytes}
 
 abbrev asks : ℕ → List ℕ
-asks mask = CONDITION ∷ to_bytes MASKWIDTH mask
+asks mask = CONDITION ∷ to_bytes MASK_WIDTH mask
 
 abbrev asks_pair : ℕ → ℕ → List ℕ
-asks_pair present absent = PAIR ∷ to_bytes MASKWIDTH present ++ to_bytes MASKWIDTH absent
+asks_pair present absent = PAIR ∷ to_bytes MASK_WIDTH present ++ to_bytes MASK_WIDTH absent
 
 abbrev does : ℕ → List ℕ
-does number = JOBLEAF ∷ number ∷ []
+does number = JOB_LEAF ∷ number ∷ []
 
 abbrev branch : ℕ → ℕ → List ℕ
 branch byte count = byte ∷ to_bytes count_width count
@@ -38,28 +38,28 @@ empty = record { held = 0; unread = 0 }
 pub stops : map (λ s. tick_checked 5 5 s 0 empty) (
     []
     ∷ does 4
-    ∷ (does 4 ++ (ENDOFTREE ∷ 0 ∷ []))
-    ∷ (does 5 ++ (ENDOFTREE ∷ []))
-    ∷ (asks 0x20 ++ (ENDOFTREE ∷ []))
+    ∷ (does 4 ++ (END_OF_TREE ∷ 0 ∷ []))
+    ∷ (does 5 ++ (END_OF_TREE ∷ []))
+    ∷ (asks 0x20 ++ (END_OF_TREE ∷ []))
     -- a bit at or above F in the first mask of a pair, and in its second
-    ∷ (asks_pair 0x20 0 ++ (ENDOFTREE ∷ []))
-    ∷ (asks_pair 0 0x20 ++ (ENDOFTREE ∷ []))
+    ∷ (asks_pair 0x20 0 ++ (END_OF_TREE ∷ []))
+    ∷ (asks_pair 0 0x20 ++ (END_OF_TREE ∷ []))
     -- a pair with one mask, and one that lacks its last byte
-    ∷ (PAIR ∷ to_bytes MASKWIDTH 0 ++ (ENDOFTREE ∷ []))
-    ∷ (PAIR ∷ to_bytes MASKWIDTH 0 ++ to_bytes 7 0)
+    ∷ (PAIR ∷ to_bytes MASK_WIDTH 0 ++ (END_OF_TREE ∷ []))
+    ∷ (PAIR ∷ to_bytes MASK_WIDTH 0 ++ to_bytes 7 0)
     -- a pair alone
-    ∷ (asks_pair 0 0x10 ++ (ENDOFTREE ∷ []))
-    ∷ (branch FALLBACK 0 ++ (ENDOFTREE ∷ []))
-    ∷ (branch FALLBACK 4097 ++ (ENDOFTREE ∷ []))
+    ∷ (asks_pair 0 0x10 ++ (END_OF_TREE ∷ []))
+    ∷ (branch FALLBACK 0 ++ (END_OF_TREE ∷ []))
+    ∷ (branch FALLBACK 4097 ++ (END_OF_TREE ∷ []))
     -- the tick is decided by the first child, and the second is looked at all the same
-    ∷ (branch FALLBACK 2 ++ (does 4 ++ (does 5 ++ (ENDOFTREE ∷ []))))
-    ∷ (branch FALLBACK 2 ++ (does 4 ++ (ENDOFTREE ∷ [])))
+    ∷ (branch FALLBACK 2 ++ (does 4 ++ (does 5 ++ (END_OF_TREE ∷ []))))
+    ∷ (branch FALLBACK 2 ++ (does 4 ++ (END_OF_TREE ∷ [])))
     -- an earlier node's 15 before a later one's 13
     ∷ (branch FALLBACK 2 ++ (does 5 ++ (0x99 ∷ [])))
     -- at depth 17: 13 before 14, and 14 before 15
     ∷ under 16 (branch SEQUENCE 0)
     ∷ under 16 (asks 0x20)
-    ∷ under 15 (does 4 ++ (ENDOFTREE ∷ []))
+    ∷ under 15 (does 4 ++ (END_OF_TREE ∷ []))
     ∷ []
     )
     ≡ refused 13 0 ∷ refused 13 2 ∷ refused 13 3 ∷ refused 15 0 ∷ refused 15 0 ∷ refused 15 0 ∷ refused 15 0 ∷ refused 13 0 ∷ refused 13 0
@@ -71,7 +71,7 @@ stops = refl
 
 -- Fact 0 is to hold and fact 1 to be absent: what a tick answers on each reading. "An unread fact of either mask leaves a condition open unless a read
 -- one fails it."
-pub pairs : map (λ r. tick_checked 2 0 (asks_pair 1 2 ++ (ENDOFTREE ∷ [])) 0 r) (
+pub pairs : map (λ r. tick_checked 2 0 (asks_pair 1 2 ++ (END_OF_TREE ∷ [])) 0 r) (
     record { held = 1; unread = 0 }
     ∷ record { held = 0; unread = 0 }
     ∷ record { held = 3; unread = 0 }
@@ -90,7 +90,7 @@ unfolding tick_checked command_at width_of number_at from_bytes to_bytes checked
 pairs = refl
 
 -- a pair that wants a fact both ways is no stop: it fails where the fact is read, and is unsettled where it is not
-pub contrary : map (λ r. tick_checked 2 0 (asks_pair 1 1 ++ (ENDOFTREE ∷ [])) 0 r) (
+pub contrary : map (λ r. tick_checked 2 0 (asks_pair 1 1 ++ (END_OF_TREE ∷ [])) 0 r) (
     record { held = 1; unread = 0 } ∷ record { held = 0; unread = 0 } ∷ record { held = 0; unread = 1 } ∷ []
     )
     ≡ map (λ a. accepted (record { answer = a; leaf = 0 })) (Failure ∷ Failure ∷ Unsettled 1 ∷ [])
@@ -101,16 +101,16 @@ contrary = refl
 -- A waiting leaf: alone; at depth 16, and 17; where a sequence and a fallback do not go on after it, though all that follows is looked at; after what
 -- they go on after; and with a byte more. It is allowed under a table with no job.
 pub waits : map (λ s. tick_checked 1 0 s 0 empty) (
-    (WAITING ∷ ENDOFTREE ∷ [])
-    ∷ under 15 (WAITING ∷ ENDOFTREE ∷ [])
-    ∷ under 16 (WAITING ∷ ENDOFTREE ∷ [])
-    ∷ (branch SEQUENCE 2 ++ (WAITING ∷ asks 0 ++ (ENDOFTREE ∷ [])))
-    ∷ (branch FALLBACK 2 ++ (WAITING ∷ asks 0 ++ (ENDOFTREE ∷ [])))
-    ∷ (branch FALLBACK 2 ++ (WAITING ∷ asks 2 ++ (ENDOFTREE ∷ [])))
-    ∷ (branch SEQUENCE 2 ++ (asks 0 ++ (WAITING ∷ ENDOFTREE ∷ [])))
-    ∷ (branch FALLBACK 2 ++ (asks 1 ++ (WAITING ∷ ENDOFTREE ∷ [])))
-    ∷ (branch SEQUENCE 2 ++ (asks 1 ++ (WAITING ∷ ENDOFTREE ∷ [])))
-    ∷ (WAITING ∷ 0 ∷ ENDOFTREE ∷ [])
+    (WAITING ∷ END_OF_TREE ∷ [])
+    ∷ under 15 (WAITING ∷ END_OF_TREE ∷ [])
+    ∷ under 16 (WAITING ∷ END_OF_TREE ∷ [])
+    ∷ (branch SEQUENCE 2 ++ (WAITING ∷ asks 0 ++ (END_OF_TREE ∷ [])))
+    ∷ (branch FALLBACK 2 ++ (WAITING ∷ asks 0 ++ (END_OF_TREE ∷ [])))
+    ∷ (branch FALLBACK 2 ++ (WAITING ∷ asks 2 ++ (END_OF_TREE ∷ [])))
+    ∷ (branch SEQUENCE 2 ++ (asks 0 ++ (WAITING ∷ END_OF_TREE ∷ [])))
+    ∷ (branch FALLBACK 2 ++ (asks 1 ++ (WAITING ∷ END_OF_TREE ∷ [])))
+    ∷ (branch SEQUENCE 2 ++ (asks 1 ++ (WAITING ∷ END_OF_TREE ∷ [])))
+    ∷ (WAITING ∷ 0 ∷ END_OF_TREE ∷ [])
     ∷ []
     )
     ≡ accepted (record { answer = Waiting; leaf = 0 }) ∷ accepted (record { answer = Waiting; leaf = 45 }) ∷ refused 14 48
@@ -123,7 +123,7 @@ waits = refl
 
 -- one fact, no job, an empty goal
 abbrev table : List ℕ
-table = FACTS ∷ 1 ∷ GOAL ∷ to_bytes MASKWIDTH 0 ++ (ENDOFTABLE ∷ [])
+table = FACTS ∷ 1 ∷ GOAL ∷ to_bytes MASK_WIDTH 0 ++ (END_OF_TABLE ∷ [])
 
 abbrev unsound : Reading
 unsound = record { held = 2; unread = 0 }

@@ -7,7 +7,7 @@ use Rattle.base.specs.Bools.{if◌then◌else◌}
 use Rattle.refusal.specs.Checked.{Checked, accepted, refused, and_then}
 use Rattle.commands.specs.declared.Found.{Found}
 use Rattle.commands.specs.declared.Found.TheVariants.{Missing, Unknown, Cut, Whole}
-use Rattle.commands.specs.Commands.{FALLBACK, SEQUENCE, CONDITION, JOBLEAF, PAIR, WAITING, ENDOFTREE, OPERANDSAT, ABSENTAT, MASKWIDTH, Past, command_at}
+use Rattle.commands.specs.Commands.{FALLBACK, SEQUENCE, CONDITION, JOB_LEAF, PAIR, WAITING, END_OF_TREE, OPERANDS_AT, ABSENT_AT, MASK_WIDTH, Past, command_at}
 use Rattle.numbers.specs.Numbers.{number_at}
 use Rattle.conditions.specs.declared.Condition.{Condition as Asked}
 use Rattle.conditions.specs.Condition.{plain, condition_within}
@@ -57,17 +57,17 @@ abbrev pub count_width : ℕ
 count_width = 2
 
 abbrev pub count_at : List ℕ → ℕ → ℕ
-count_at s at = number_at count_width s (at + OPERANDSAT)
+count_at s at = number_at count_width s (at + OPERANDS_AT)
 
 abbrev pub child_count : Kind → ℕ → ℕ → Checked Node
 child_count kind at n = if leb 1 n && leb n max_children then accepted (branch kind n) else refused 13 at
 
 -- "mask, 8"; by W10 "both masks"
 abbrev pub mask_at : List ℕ → ℕ → ℕ
-mask_at s at = number_at MASKWIDTH s (at + OPERANDSAT)
+mask_at s at = number_at MASK_WIDTH s (at + OPERANDS_AT)
 
 abbrev pub pair_at : List ℕ → ℕ → Asked
-pair_at s at = record { present = mask_at s at; absent = number_at MASKWIDTH s (at + ABSENTAT) }
+pair_at s at = record { present = mask_at s at; absent = number_at MASK_WIDTH s (at + ABSENT_AT) }
 
 -- a node's command, and its operands after it
 unfoldable pub operands_of : List ℕ → ℕ → ℕ → Checked Node
@@ -75,7 +75,7 @@ operands_of s at byte =
     if eqb byte FALLBACK then child_count Fallback at (count_at s at)
     else if eqb byte SEQUENCE then child_count Sequence at (count_at s at)
     else if eqb byte CONDITION then accepted (leaf (Condition (plain (mask_at s at))))
-    else if eqb byte JOBLEAF then accepted (leaf (Action (get_or s (at + OPERANDSAT) 0)))
+    else if eqb byte JOB_LEAF then accepted (leaf (Action (get_or s (at + OPERANDS_AT) 0)))
     else if eqb byte PAIR then accepted (leaf (Condition (pair_at s at)))
     else if eqb byte WAITING then accepted (leaf Wait)
     else refused 13 at
@@ -87,7 +87,7 @@ node_at s at = and_then (whole_at s at) λ c. and_then (operands_of s at c.value
 unfoldable pub read_end : List ℕ → Tree → ℕ → Checked Tree
 read_end s t at =
     and_then (whole_at s at) λ c.
-    if eqb c.value ENDOFTREE then (if eqb c.next (length s) then accepted t else refused 13 c.next) else refused 13 at
+    if eqb c.value END_OF_TREE then (if eqb c.next (length s) then accepted t else refused 13 c.next) else refused 13 at
 
 -- ---- the nodes, in byte order
 

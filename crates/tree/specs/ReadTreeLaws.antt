@@ -17,7 +17,7 @@ use Rattle.commands.specs.declared.Found.{Found}
 use Rattle.commands.specs.declared.Found.TheVariants.{Missing, Unknown, Cut, Whole}
 use Rattle.commands.specs.declared.Width.{Width}
 use Rattle.commands.specs.declared.Width.TheVariants.{Bytes, NoCommand}
-use Rattle.commands.specs.Commands.{FALLBACK, SEQUENCE, CONDITION, JOBLEAF, ENDOFTREE, FALLBACKSIZE, CONDITIONSIZE, JOBLEAFSIZE, PAIR, PAIRSIZE, WAITING, WAITINGSIZE, OPERANDSAT, MASKWIDTH, Past, width_of, command_at}
+use Rattle.commands.specs.Commands.{FALLBACK, SEQUENCE, CONDITION, JOB_LEAF, END_OF_TREE, FALLBACK_SIZE, CONDITION_SIZE, JOB_LEAF_SIZE, PAIR, PAIR_SIZE, WAITING, WAITING_SIZE, OPERANDS_AT, MASK_WIDTH, Past, width_of, command_at}
 use Rattle.commands.specs.CommandLaws.{at_missing, at_unknown, at_whole, at_cut, WholeAt, whole_told}
 use Rattle.conditions.specs.Condition.{plain}
 use Rattle.tree.specs.declared.Kind.{Kind}
@@ -58,36 +58,36 @@ module _ (s : List ℕ) (at : ℕ) where
       node_whole l n o = rw (at_whole s at h w e (omega arith), o, past)
 
     module _ (b : get_or s at 0 ≡ CONDITION) where
-      pub condition_cut : length s < at + CONDITIONSIZE → refused 13 at ≡ node_at s at
+      pub condition_cut : length s < at + CONDITION_SIZE → refused 13 at ≡ node_at s at
       unfolding width_of
-      condition_cut l = node_cut MASKWIDTH (rw b) l
+      condition_cut l = node_cut MASK_WIDTH (rw b) l
 
-      pub condition_whole : at + CONDITIONSIZE ≤ length s
-          → accepted (record { value = leaf (Condition (plain (mask_at s at))); next = at + CONDITIONSIZE }) ≡ node_at s at
+      pub condition_whole : at + CONDITION_SIZE ≤ length s
+          → accepted (record { value = leaf (Condition (plain (mask_at s at))); next = at + CONDITION_SIZE }) ≡ node_at s at
       unfolding width_of operands_of
-      condition_whole l = node_whole MASKWIDTH (rw b) l (accepted (leaf (Condition (plain (mask_at s at))))) (rw b)
+      condition_whole l = node_whole MASK_WIDTH (rw b) l (accepted (leaf (Condition (plain (mask_at s at))))) (rw b)
 
     module _ (b : get_or s at 0 ≡ PAIR) where
-      pub pair_cut : length s < at + PAIRSIZE → refused 13 at ≡ node_at s at
+      pub pair_cut : length s < at + PAIR_SIZE → refused 13 at ≡ node_at s at
       unfolding width_of
       pair_cut l = node_cut 16 (rw b) l
 
-      pub pair_whole : at + PAIRSIZE ≤ length s → accepted (record { value = leaf (Condition (pair_at s at)); next = at + PAIRSIZE }) ≡ node_at s at
+      pub pair_whole : at + PAIR_SIZE ≤ length s → accepted (record { value = leaf (Condition (pair_at s at)); next = at + PAIR_SIZE }) ≡ node_at s at
       unfolding width_of operands_of
       pair_whole l = node_whole 16 (rw b) l (accepted (leaf (Condition (pair_at s at)))) (rw b)
 
-    module _ (b : get_or s at 0 ≡ JOBLEAF) where
-      pub action_cut : length s < at + JOBLEAFSIZE → refused 13 at ≡ node_at s at
+    module _ (b : get_or s at 0 ≡ JOB_LEAF) where
+      pub action_cut : length s < at + JOB_LEAF_SIZE → refused 13 at ≡ node_at s at
       unfolding width_of
       action_cut l = node_cut 1 (rw b) l
 
-      pub action_whole : at + JOBLEAFSIZE ≤ length s
-          → accepted (record { value = leaf (Action (get_or s (at + OPERANDSAT) 0)); next = at + JOBLEAFSIZE }) ≡ node_at s at
+      pub action_whole : at + JOB_LEAF_SIZE ≤ length s
+          → accepted (record { value = leaf (Action (get_or s (at + OPERANDS_AT) 0)); next = at + JOB_LEAF_SIZE }) ≡ node_at s at
       unfolding width_of operands_of
-      action_whole l = node_whole 1 (rw b) l (accepted (leaf (Action (get_or s (at + OPERANDSAT) 0)))) (rw b)
+      action_whole l = node_whole 1 (rw b) l (accepted (leaf (Action (get_or s (at + OPERANDS_AT) 0)))) (rw b)
 
     module _ (b : get_or s at 0 ≡ WAITING) where
-      pub wait_whole : accepted (record { value = leaf Wait; next = at + WAITINGSIZE }) ≡ node_at s at
+      pub wait_whole : accepted (record { value = leaf Wait; next = at + WAITING_SIZE }) ≡ node_at s at
       unfolding width_of operands_of
       wait_whole = node_whole 0 (rw b) (omega arith) (accepted (leaf Wait)) (rw b)
 
@@ -109,12 +109,12 @@ module _ (s : List ℕ) (at : ℕ) where
           by_kind Fallback = refl
           by_kind Sequence = refl
 
-      pub branch_cut : length s < at + FALLBACKSIZE → refused 13 at ≡ node_at s at
+      pub branch_cut : length s < at + FALLBACK_SIZE → refused 13 at ≡ node_at s at
       branch_cut l = node_cut count_width branch_width l
 
-      module _ (l : at + FALLBACKSIZE ≤ length s) where
+      module _ (l : at + FALLBACK_SIZE ≤ length s) where
         branch_whole : (n : Checked Node) → child_count kind at (count_at s at) ≡ n
-            → (and_then n λ v. accepted (record { value = v; next = at + FALLBACKSIZE })) ≡ node_at s at
+            → (and_then n λ v. accepted (record { value = v; next = at + FALLBACK_SIZE })) ≡ node_at s at
         branch_whole n e = node_whole count_width branch_width l n (branch_operands ∙ e)
 
         pub branch_none : count_at s at ≡ 0 → refused 13 at ≡ node_at s at
@@ -127,11 +127,11 @@ module _ (s : List ℕ) (at : ℕ) where
           pub branch_many : max_children < count_at s at → refused 13 at ≡ node_at s at
           branch_many m = branch_whole (refused 13 at) (rw (more_than_none, lt-leb (count_at s at) max_children m))
 
-          pub branch_counted : count_at s at ≤ max_children → accepted (record { value = branch kind (count_at s at); next = at + FALLBACKSIZE }) ≡ node_at s at
+          pub branch_counted : count_at s at ≤ max_children → accepted (record { value = branch kind (count_at s at); next = at + FALLBACK_SIZE }) ≡ node_at s at
           branch_counted m = branch_whole (accepted (branch kind (count_at s at))) (rw (more_than_none, le-leb (count_at s at) max_children m))
 
     -- another command, or none
-    pub node_other : (get_or s at 0 ≡ FALLBACK → ⊥) → (get_or s at 0 ≡ SEQUENCE → ⊥) → (get_or s at 0 ≡ CONDITION → ⊥) → (get_or s at 0 ≡ JOBLEAF → ⊥)
+    pub node_other : (get_or s at 0 ≡ FALLBACK → ⊥) → (get_or s at 0 ≡ SEQUENCE → ⊥) → (get_or s at 0 ≡ CONDITION → ⊥) → (get_or s at 0 ≡ JOB_LEAF → ⊥)
         → (get_or s at 0 ≡ PAIR → ⊥) → (get_or s at 0 ≡ WAITING → ⊥) → refused 13 at ≡ node_at s at
     unfolding node_at whole_at operands_of
     node_other f q c j p w = by_width (width_of (get_or s at 0)) refl
@@ -173,7 +173,7 @@ module _ (s : List ℕ) (at : ℕ) where
       let (c, whole, operands) = accepted_then (whole_at s at) _ _ (sym e) in
       let (v, found, same) = accepted_then (operands_of s at c.value) (λ v. accepted (record { value = v; next = c.next })) _ operands in
       let is : v ≡ branch kind count = ap (λ (p : Past Node). p.value) (accepted_same same) in
-      by_tests (eqb c.value FALLBACK) (eqb c.value SEQUENCE) (eqb c.value CONDITION) (eqb c.value JOBLEAF) (eqb c.value PAIR) (eqb c.value WAITING) (rw is at found)
+      by_tests (eqb c.value FALLBACK) (eqb c.value SEQUENCE) (eqb c.value CONDITION) (eqb c.value JOB_LEAF) (eqb c.value PAIR) (eqb c.value WAITING) (rw is at found)
     where
       counted : (k : Kind) → child_count k at (count_at s at) ≡ accepted (branch kind count) → 1 ≤ count
       counted k q =
@@ -189,7 +189,7 @@ module _ (s : List ℕ) (at : ℕ) where
           → (if f then child_count Fallback at (count_at s at)
           else if q then child_count Sequence at (count_at s at)
           else if c then accepted (leaf (Condition (plain (mask_at s at))))
-          else if j then accepted (leaf (Action (get_or s (at + OPERANDSAT) 0)))
+          else if j then accepted (leaf (Action (get_or s (at + OPERANDS_AT) 0)))
           else if p then accepted (leaf (Condition (pair_at s at)))
           else if w then accepted (leaf Wait)
           else refused 13 at) ≡ accepted (branch kind count) → 1 ≤ count
@@ -240,7 +240,7 @@ module _ (s : List ℕ) (facts jobs : ℕ) where
 module _ (s : List ℕ) (t : Tree) (at : ℕ) where
   ended : (c : Found) (r : Checked Tree) → command_at s at ≡ c
       → r ≡ (and_then (whole_in s at c) λ c.
-      if eqb c.value ENDOFTREE then (if eqb c.next (length s) then accepted t else refused 13 c.next) else refused 13 at)
+      if eqb c.value END_OF_TREE then (if eqb c.next (length s) then accepted t else refused 13 c.next) else refused 13 at)
       → r ≡ read_end s t at
   unfolding read_end whole_at
   ended c r e q = rw e q
@@ -255,10 +255,10 @@ module _ (s : List ℕ) (t : Tree) (at : ℕ) where
   end_cut byte e = ended (Cut byte) _ e refl
 
   module _ (byte next : ℕ) (e : command_at s at ≡ Whole byte next) where
-    pub end_other : (byte ≡ ENDOFTREE → ⊥) → refused 13 at ≡ read_end s t at
+    pub end_other : (byte ≡ END_OF_TREE → ⊥) → refused 13 at ≡ read_end s t at
     end_other b = ended (Whole byte next) _ e (rw (ne_eqb _ _ b))
 
-    module _ (b : byte ≡ ENDOFTREE) where
+    module _ (b : byte ≡ END_OF_TREE) where
       pub end_more : (next ≡ length s → ⊥) → refused 13 next ≡ read_end s t at
       end_more l = ended (Whole byte next) _ e (rw (eq-eqb _ _ b, ne_eqb _ _ l))
 

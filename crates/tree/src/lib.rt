@@ -1,8 +1,9 @@
 // Behaviour trees in bytes: a node's command with its operands, with what stop 13 asks of a node by itself, and what a leaf answers (document 01,
 // "Commands", "Ticking" and "Stops, in checking order"; document 02, W10 and W12).
 #![tactic(auto)]
+
 ghost use Rattle.std.specs.Prelude.{◌≡◌, ◌+◌, ◌<◌, ltb, length, get_or};
-ghost use Rattle.commands.specs.Commands.{CONDITION, PAIR, JOB-LEAF};
+ghost use Rattle.commands.specs.Commands.{CONDITION, PAIR, JOB_LEAF};
 ghost use Rattle.tree.specs.ReadTree.{kind_byte, node_at, node_read_of, in_range};
 ghost use Rattle.tree.specs.Tick.{status_of, leaf_answer};
 
@@ -102,7 +103,7 @@ fn pair_at(tree: &[u8], at: usize) -> NodeRead
 }
 
 fn action_at(tree: &[u8], at: usize) -> NodeRead
-    requires { (at < length tree.now) × (get_or tree.now at 0 ≡ JOB-LEAF) }
+    requires { (at < length tree.now) × (get_or tree.now at 0 ≡ JOB_LEAF) }
     ensures { node_read_of result ≡ node_at tree.now at }
 {
     if is_cut(tree, at, commands::JOB_LEAF_SIZE) {

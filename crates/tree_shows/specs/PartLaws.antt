@@ -8,7 +8,7 @@ use Rattle.base.specs.Bools.{holds, fails}
 use Rattle.masks.specs.Laws.{within_empty}
 use Rattle.refusal.specs.Checked.{Checked, accepted, refused, and_then}
 use Rattle.refusal.specs.CheckedLaws.{not_both}
-use Rattle.commands.specs.Commands.{MASKWIDTH}
+use Rattle.commands.specs.Commands.{MASK_WIDTH}
 use Rattle.numbers.specs.Numbers.{number_at}
 use Rattle.reading.specs.Reading.{state}
 use Rattle.table.specs.Table.{Table}
@@ -65,7 +65,7 @@ module _ (size : ℕ) where
 -- ---- where the last mask stands
 
 pub mask_there : (tree : List ℕ) (n after : ℕ) → 1 ≤ n → tree_size false n ≡ length tree → ((n ≡ 1) → after ≡ 1) → ((n ≡ 1 → ⊥) → after ≡ 3)
-    → number_at MASKWIDTH tree (length tree - (after + MASKWIDTH)) ≡ last_mask tree
+    → number_at MASK_WIDTH tree (length tree - (after + MASK_WIDTH)) ≡ last_mask tree
 unfolding last_mask
 mask_there tree n after some size one more =
     elim (dec_le n 1) [

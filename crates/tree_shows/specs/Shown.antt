@@ -3,7 +3,7 @@
 use Rattle.std.specs.Prelude.{ℕ, ◌+◌, ◌-◌, ◌≤◌, ◌≡◌, Bool, true, false, ◌&&◌, List, [], ◌∷◌, eqb, leb, length}
 use Rattle.base.specs.Bools.{if◌then◌else◌}
 use Rattle.refusal.specs.Checked.{Checked, accepted, and_then}
-use Rattle.commands.specs.Commands.{MASKWIDTH, JOBLEAFSIZE, ENDOFTREESIZE}
+use Rattle.commands.specs.Commands.{MASK_WIDTH, JOB_LEAF_SIZE, END_OF_TREE_SIZE}
 use Rattle.numbers.specs.Numbers.{number_at}
 use Rattle.table.specs.Table.{Table}
 use Rattle.table.specs.Read.{read_table}
@@ -23,10 +23,10 @@ pub record Shows (paired : Bool) (size n : ℕ) : Type 0 where
 -- where the mask of the last condition stands, in so many bytes of a list's tree: END comes after it, and before that the last entry's job, if it is not
 -- entry 0
 abbrev pub last_mask_at : ℕ → ℕ
-last_mask_at size = size - (ENDOFTREESIZE + (if leb size (tree_size false 1) then 0 else JOBLEAFSIZE) + MASKWIDTH)
+last_mask_at size = size - (END_OF_TREE_SIZE + (if leb size (tree_size false 1) then 0 else JOB_LEAF_SIZE) + MASK_WIDTH)
 
 unfoldable pub last_mask : List ℕ → ℕ
-last_mask tree = number_at MASKWIDTH tree (last_mask_at (length tree))
+last_mask tree = number_at MASK_WIDTH tree (last_mask_at (length tree))
 
 unfoldable pub same_bytes : List ℕ → List ℕ → Bool
 same_bytes [] [] = true

@@ -9,7 +9,7 @@ use Rattle.std.proofs.Math.Dec.{not_T, eqb_refl, leb}
 use Rattle.std.proofs.Math.ListN.{length, length-append}
 use borrow.Author.Tests.{lt-leb}
 use Rattle.base.specs.Bools.{and_intro, and_left, and_right, is_true, is_false}
-use Rattle.commands.specs.Commands.{MASKWIDTH}
+use Rattle.commands.specs.Commands.{MASK_WIDTH}
 use Rattle.numbers.specs.Numbers.{to_bytes, number_at}
 use Rattle.numbers.specs.NumberLaws.{from_to, read_drop}
 use Rattle.conditions.specs.declared.Condition.{Condition}
@@ -43,7 +43,7 @@ same_all a b size each = is_true (same_bytes a b) (subst (λ (c : List ℕ). T (
 -- entry 0 alone
 one_shown : (x : Entry Condition) → x.condition.present < 2 ^ 64 → last_mask (tree_bytes false (x ∷ [])) ≡ x.condition.present
 unfolding last_mask own_tree later_entries first_bytes condition_bytes to_bytes number_at
-one_shown x h = from_to MASKWIDTH x.condition.present h
+one_shown x h = from_to MASK_WIDTH x.condition.present h
 
 -- an entry after others
 module _ (x : Entry Condition) (l : List (Entry Condition)) (y : Entry Condition) where
@@ -63,9 +63,9 @@ module _ (x : Entry Condition) (l : List (Entry Condition)) (y : Entry Condition
   front_size = omega (arith, length-append (first_bytes false (length (x ∷ (l ++ (y ∷ [])))) x.condition) (later_entries everyone false l))
 
   -- its mask comes after SEQUENCE 2 and the command of the condition
-  rest_shown : (y.condition.present < 2 ^ 64) → number_at MASKWIDTH rest 4 ≡ y.condition.present
+  rest_shown : (y.condition.present < 2 ^ 64) → number_at MASK_WIDTH rest 4 ≡ y.condition.present
   unfolding entry_bytes condition_bytes leaf_bytes to_bytes number_at
-  rest_shown h = from_to MASKWIDTH y.condition.present h
+  rest_shown h = from_to MASK_WIDTH y.condition.present h
 
   rest_size : length rest ≡ 15
   unfolding entry_bytes condition_bytes leaf_bytes to_bytes
@@ -77,7 +77,7 @@ module _ (x : Entry Condition) (l : List (Entry Condition)) (y : Entry Condition
       let size : length (front ++ rest) ≡ length front + 15 = omega (arith, length-append front rest, rest_size) in
       let long : leb (length (front ++ rest)) 13 ≡ false = lt-leb (length (front ++ rest)) 13 (omega (arith, size, front_size)) in
       let at : last_mask_at (length (front ++ rest)) ≡ length front + 4 = rw long (omega (arith, size)) in
-      rw (tree_split, at) (read_drop MASKWIDTH (front ++ rest) (length front) 4 ∙ ap (λ (s : List ℕ). number_at MASKWIDTH s 4) (drop_at front rest (length front) refl) ∙ rest_shown h)
+      rw (tree_split, at) (read_drop MASK_WIDTH (front ++ rest) (length front) 4 ∙ ap (λ (s : List ℕ). number_at MASK_WIDTH s 4) (drop_at front rest (length front) refl) ∙ rest_shown h)
 
 -- of any list
 pub last_shown : (l : List (Entry Condition)) (n : ℕ) (d : Entry Condition) → length l ≡ suc n → (get_or l n d).condition.present < 2 ^ 64

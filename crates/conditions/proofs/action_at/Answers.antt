@@ -2,4 +2,4 @@ use borrow.Author.Rules.{rules}
 use Rattle.conditions.proofs.action_at.Goals as goal
 
 pub returns : goal.returns
-returns c = rw (c.before.before.before.before.mask_at-needed.ensures, c.before.before.before.mask_at-lacked.ensures, c.before.before.mask_at-added.ensures, c.before.mask_at-deleted.ensures)
+returns c = rw (c.mask_at-needed.ensures, c.mask_at-lacked.ensures, c.mask_at-added.ensures, c.mask_at-deleted.ensures)

@@ -30,15 +30,14 @@ start_of c = c.before.before
 -- the first test is that of the facts to hold
 all_possible : (c : AtAfterIsSubset) → let a = (start_of c).args in
     c.is_subset.result ≡ subset a.c.present (union a.reading.held a.reading.unread)
-all_possible c = c.is_subset.ensures ∙ ap (subset _) c.before.join-possible.ensures
+all_possible c = c.is_subset.ensures ∙ ap (subset _) c.join-possible.ensures
 
 pub returns-then-not-is_subset : goal.returns-then-not-is_subset
 returns-then-not-is_subset c = evaluated_present _ _ (sym (all_possible c.before) ∙ c.if-not-is_subset.true)
 
 pub returns-then-share_fact : goal.returns-then-share_fact
 returns-then-share_fact c =
-    let e = c.before.before in
-    evaluated_absent _ _ (sym (all_possible e.before) ∙ e.if-not-is_subset.false) (sym c.before.share_fact.ensures ∙ c.if-share_fact.true)
+    evaluated_absent _ _ (sym (all_possible c.before.before.before) ∙ c.if-not-is_subset.false) (sym c.share_fact.ensures ∙ c.if-share_fact.true)
 
 -- no fact that was read fails the condition
 abbrev Undecided : Type 0
@@ -49,17 +48,15 @@ asked_of c = c.before.before
 
 held : (c : Undecided) → let a = (start_of (asked_of c).before.before).args in
     subset a.c.present (union a.reading.held a.reading.unread) ≡ true
-held c = sym (all_possible (asked_of c).before.before) ∙ (asked_of c).before.if-not-is_subset.false
+held c = sym (all_possible (asked_of c).before.before) ∙ (asked_of c).if-not-is_subset.false
 
 absent : (c : Undecided) → let a = (start_of (asked_of c).before.before).args in intersects a.c.absent a.reading.held ≡ false
-absent c = sym (asked_of c).share_fact.ensures ∙ c.before.if-share_fact.false
+absent c = sym (asked_of c).share_fact.ensures ∙ c.if-share_fact.false
 
 pub returns-then-unread-eq0 : goal.returns-then-unread-eq0
 returns-then-unread-eq0 c =
-    let j = c.before.before in
-    evaluated_met _ _ (held j) (absent j) (rw j.join.ensures at c.if-unread-eq0.true)
+    evaluated_met _ _ (held c.before.before) (absent c.before.before) (rw c.join.ensures at c.if-unread-eq0.true)
 
 pub returns : goal.returns
 returns c =
-    let j = c.before.before in
-    rw j.join.ensures (evaluated_open _ _ (held j) (absent j) (rw j.join.ensures at c.if-unread-eq0.false))
+    rw c.join.ensures (evaluated_open _ _ (held c.before.before) (absent c.before.before) (rw c.join.ensures at c.if-unread-eq0.false))

@@ -7,4 +7,4 @@ use Rattle.conditions.proofs.finish.Goals as goal
 pub returns : goal.returns
 unfolding finished applied
 returns c =
-    rw (c.before.before.without-held.ensures, c.before.before.before.join.ensures, c.without-unread.ensures, c.before.without.ensures)
+    rw (c.without-held.ensures, c.join.ensures, c.without-unread.ensures, c.without.ensures)

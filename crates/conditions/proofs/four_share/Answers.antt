@@ -22,13 +22,9 @@ returns-then-not-share_fact-3 c = λ e. not_so e
 
 pub returns : goal.returns
 returns c =
-    let third = c.before.before.before in
-    let second = third.before.before.before in
-    let first = second.before.before.before in
-    let s = first.before.before.before.before in
     λ e.
-    four_sharing s.args.conditions.now s.args.others s.args.k s.requires.0
-    (sym first.before.share_fact.ensures ∙ first.if-not-share_fact.false)
-    (sym second.before.share_fact-2.ensures ∙ second.if-not-share_fact-2.false)
-    (sym third.before.share_fact-3.ensures ∙ third.if-not-share_fact-3.false)
-    (sym c.before.share_fact-4.ensures ∙ e)
+    four_sharing c.args.conditions.now c.args.others c.args.k c.requires.0
+    (sym c.share_fact.ensures ∙ c.if-not-share_fact.false)
+    (sym c.share_fact-2.ensures ∙ c.if-not-share_fact-2.false)
+    (sym c.share_fact-3.ensures ∙ c.if-not-share_fact-3.false)
+    (sym c.share_fact-4.ensures ∙ e)

@@ -9,9 +9,8 @@ use Rattle.conditions.proofs.is_applicable.Goals as goal
 pub returns-then-is_subset : goal.returns-then-is_subset
 unfolding applicable
 returns-then-is_subset c =
-    let j = c.before.before.before in
-    rw (← c.before.before.is_subset.ensures, c.before.if-is_subset.true) (ap not (c.share_fact.ensures ∙ ap (intersects _) j.join-not_absent.ensures))
+    rw (← c.is_subset.ensures, c.if-is_subset.true) (ap not (c.share_fact.ensures ∙ ap (intersects _) c.join-not_absent.ensures))
 
 pub returns-else-is_subset : goal.returns-else-is_subset
 unfolding applicable
-returns-else-is_subset c = rw (← c.before.is_subset.ensures, c.if-is_subset.false)
+returns-else-is_subset c = rw (← c.is_subset.ensures, c.if-is_subset.false)

@@ -7,8 +7,8 @@ use Rattle.conditions.proofs.is_satisfied.Goals as goal
 
 pub returns-then-is_subset : goal.returns-then-is_subset
 unfolding satisfied
-returns-then-is_subset c = rw (← c.before.before.is_subset.ensures, c.before.if-is_subset.true) (ap not c.share_fact.ensures)
+returns-then-is_subset c = rw (← c.is_subset.ensures, c.if-is_subset.true) (ap not c.share_fact.ensures)
 
 pub returns-else-is_subset : goal.returns-else-is_subset
 unfolding satisfied
-returns-else-is_subset c = rw (← c.before.is_subset.ensures, c.if-is_subset.false)
+returns-else-is_subset c = rw (← c.is_subset.ensures, c.if-is_subset.false)

@@ -4,4 +4,4 @@ use Rattle.masks.specs.Laws.{within_both}
 use Rattle.conditions.proofs.is_within.Goals as goal
 
 pub returns : goal.returns
-returns c = rw (c.before.join.ensures, within_both) at c.is_within.ensures
+returns c = rw (c.join.ensures, within_both) at c.is_within.ensures

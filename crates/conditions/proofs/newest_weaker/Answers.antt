@@ -50,7 +50,7 @@ abbrev among : AtSearch → ℕ → Found
 among c i = newest_weaker (start_of c).args.conditions.now (start_of c).args.absences.now i (start_of c).args.c
 
 newer : (c : First) → suc ((turn_of c).search.k - 1) ≡ (turn_of c).search.k
-newer c = omega (arith, c.before.before.if-k-eq0.false)
+newer c = omega (arith, c.if-k-eq0.false)
 
 on_to : (c : First) → among (turn_of c) (suc ((turn_of c).search.k - 1)) ≡ among (turn_of c) (start_of (turn_of c)).args.n
 on_to c = ap (among (turn_of c)) (newer c) ∙ (turn_of c).search.invariant.1
@@ -68,7 +68,7 @@ first_fails c e =
 
 second_is : (c : Second) → let a = (start_of (turn_of (first_of c))).args in
     c.is_subset-then-is_subset.result ≡ subset (get_or a.absences.now ((turn_of (first_of c)).search.k - 1) 0) a.c.absent
-second_is c = c.is_subset-then-is_subset.ensures ∙ ap (λ (m : ℕ). subset m (start_of (turn_of (first_of c))).args.c.absent) c.before.mask_at-absent.ensures
+second_is c = c.is_subset-then-is_subset.ensures ∙ ap (λ (m : ℕ). subset m (start_of (turn_of (first_of c))).args.c.absent) c.mask_at-absent.ensures
 
 second_fails : (c : Second) → c.is_subset-then-is_subset.result ≡ false → part (first_of c) ≡ false
 second_fails c e =
@@ -83,28 +83,27 @@ both_hold c e f =
 
 pub search-init : goal.search-init
 search-init c =
-    let p = c.before.past_others-k.ensures in
-    (p.0, passed_over _ _ _ _ _ (λ i. (c.before.before.before.shared_slice_known-1.given i).fits) p.0 p.1)
+    let p = c.past_others-k.ensures in
+    (p.0, passed_over _ _ _ _ _ (λ i. (c.shared_slice_known-1.given i).fits) p.0 p.1)
 
 pub search-preserved-else-is_subset-2 : goal.search-preserved-else-is_subset-2
 search-preserved-else-is_subset-2 c =
     let f = first_of c.before.before in (
       omega (arith, (turn_of f).search.invariant.0),
-      newest_other _ _ _ _ (second_fails c.before.before c.before.if-is_subset-2.false) ∙ on_to f,
+      newest_other _ _ _ _ (second_fails c.before.before c.if-is_subset-2.false) ∙ on_to f,
     )
 
 pub search-preserved : goal.search-preserved
-search-preserved c =
-    let f = c.before.before in (
-      omega (arith, (turn_of f).search.invariant.0),
-      newest_other _ _ _ _ (first_fails f c.before.if-is_subset.false) ∙ on_to f,
-    )
+search-preserved c = (
+  omega (arith, (turn_of c.before.before).search.invariant.0),
+  newest_other _ _ _ _ (first_fails c.before.before c.if-is_subset.false) ∙ on_to c.before.before,
+)
 
 pub returns-then-k-eq0 : goal.returns-then-k-eq0
 returns-then-k-eq0 c =
-    let none : 0 ≡ c.before.before.search.k = omega (arith, c.before.if-k-eq0.true) in
-    searches _ _ _ _ _ (newest_none _ _ _ ∙ ap (among c.before.before) none ∙ c.before.before.search.invariant.1)
+    let none : 0 ≡ c.search.k = omega (arith, c.if-k-eq0.true) in
+    searches _ _ _ _ _ (newest_none _ _ _ ∙ ap (among c.before.before) none ∙ c.search.invariant.1)
 
 pub returns-then-is_subset-2 : goal.returns-then-is_subset-2
 returns-then-is_subset-2 c =
-    searches _ _ _ _ _ (newest_met _ _ _ _ (both_hold c.before.before c.before.before.before.before.if-is_subset.true c.before.if-is_subset-2.true) ∙ on_to (first_of c.before.before))
+    searches _ _ _ _ _ (newest_met _ _ _ _ (both_hold c.before.before c.if-is_subset.true c.if-is_subset-2.true) ∙ on_to (first_of c.before.before))

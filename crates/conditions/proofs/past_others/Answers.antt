@@ -16,21 +16,18 @@ four_share-requires c = (omega arith, omega arith)
 
 pub returns-then-not-four_share : goal.returns-then-not-four_share
 returns-then-not-four_share c =
-    let l = c.before.before.before.before in
-    (l.loop-k.invariant.0, rw l.before.others-others.ensures at l.loop-k.invariant.1)
+    (c.loop-k.invariant.0, rw c.others-others.ensures at c.loop-k.invariant.1)
 
 pub loop-k-preserved : goal.loop-k-preserved
-loop-k-preserved c =
-    let l = c.before.before.before.before in (
-      omega (arith, l.loop-k.invariant.0),
-      λ i a b.
-          elim (dec_le l.loop-k.k i) [
-            | yes p ↦ l.loop-k.invariant.1 i p b
-            | no p ↦ c.before.before.four_share.ensures (c.before.if-not-four_share.false) i a (omega arith)
-          ],
-    )
+loop-k-preserved c = (
+  omega (arith, c.loop-k.invariant.0),
+  λ i a b.
+      elim (dec_le c.loop-k.k i) [
+        | yes p ↦ c.loop-k.invariant.1 i p b
+        | no p ↦ c.four_share.ensures (c.if-not-four_share.false) i a (omega arith)
+      ],
+)
 
 pub returns : goal.returns
 returns c =
-    let l = c.before.before in
-    (l.loop-k.invariant.0, rw l.before.others-others.ensures at l.loop-k.invariant.1)
+    (c.loop-k.invariant.0, rw c.others-others.ensures at c.loop-k.invariant.1)

@@ -5,4 +5,4 @@ use Rattle.conditions.proofs.regress.Goals as goal
 
 pub returns : goal.returns
 unfolding regressed
-returns c = rw (c.join-absent.ensures, c.before.without-2.ensures, c.before.before.join-present.ensures, c.before.before.before.without.ensures)
+returns c = rw (c.join-absent.ensures, c.without-2.ensures, c.join-present.ensures, c.without.ensures)

@@ -7,5 +7,5 @@ use Rattle.numbers.proofs.read_u16.Goals as goal
 
 pub returns : goal.returns
 returns c =
-    let a = c.before.before.before.before.before.before.args in
-    omega (arith, read_append 1 1 a.s.now a.at (omega arith), read_byte a.s.now a.at (omega arith), read_byte a.s.now (a.at + 1) (omega arith), c.before.wide-2.ensures.0, c.before.before.before.wide.ensures.0)
+    let a = c.args in
+    omega (arith, read_append 1 1 a.s.now a.at (omega arith), read_byte a.s.now a.at (omega arith), read_byte a.s.now (a.at + 1) (omega arith), c.wide-2.ensures.0, c.wide.ensures.0)

@@ -6,5 +6,5 @@ use Rattle.numbers.proofs.read_u32.Goals as goal
 
 pub returns : goal.returns
 returns c =
-    let a = c.before.before.before.before.args in
-    omega (arith, read_append 2 2 a.s.now a.at (omega arith), c.before.read_u16-high.ensures, c.before.before.read_u16-low.ensures)
+    let a = c.args in
+    omega (arith, read_append 2 2 a.s.now a.at (omega arith), c.read_u16-high.ensures, c.read_u16-low.ensures)

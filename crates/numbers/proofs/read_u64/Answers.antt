@@ -6,5 +6,5 @@ use Rattle.numbers.proofs.read_u64.Goals as goal
 
 pub returns : goal.returns
 returns c =
-    let a = c.before.before.before.before.args in
-    omega (arith, read_append 4 4 a.s.now a.at (omega arith), c.before.read_u32-high.ensures, c.before.before.read_u32-low.ensures)
+    let a = c.args in
+    omega (arith, read_append 4 4 a.s.now a.at (omega arith), c.read_u32-high.ensures, c.read_u32-low.ensures)

@@ -25,6 +25,5 @@ start_of c = c.before.before.before
 
 pub returns : goal.returns
 returns c =
-    let high = c.before.before.before in
-    let a = (start_of (low_of high)).args in
-    high.write_u32-2.ensures ∙ rw (low_of high).write_u32.ensures (write_append a.s.now a.at 4 4 a.v)
+    let a = (start_of (low_of c.before.before.before)).args in
+    c.write_u32-2.ensures ∙ rw (low_of c.before.before.before).write_u32.ensures (write_append a.s.now a.at 4 4 a.v)
