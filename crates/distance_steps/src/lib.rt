@@ -1,6 +1,7 @@
 // Where the actions lead from a state, by a row with a label for each state, and the first labels of such a row: what the sweeps for the distances of all
 // states are made of (document 02, W13). A label is a distance as far as it was found yet. An action is document 01's job.
 #![tactic(auto)]
+
 ghost use Rattle.std.specs.Prelude.{◌≡◌, ◌<◌, length};
 ghost use Rattle.base.specs.Lists.{prefix};
 ghost use Rattle.conditions.specs.declared.Condition.{Condition};

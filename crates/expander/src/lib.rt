@@ -1,6 +1,7 @@
 // The expansion of a goal into the list of conditions from which actions lead to it (document 01, "Expansion"; document 02, W10), over rows of the
 // actions' masks and five lent list tables. An action is document 01's job.
 #![tactic(auto)]
+
 ghost use Rattle.std.specs.Prelude.{◌≡◌, ltb, length};
 ghost use Rattle.conditions.specs.Condition.{plain};
 ghost use Rattle.expander.specs.Expands.{count_of, actions_of, columns, capacity_of, ended_by, if_paired, Unlent, Expands};
