@@ -1,8 +1,12 @@
 -- What one read makes of a file that is read into a buffer.
 -- Definitions only.
-use Rattle.std.specs.Prelude.{◌≡◌, List, ℕ, zero, suc, ◌+◌, ◌-◌, min, ℤ, pos, negsuc, length, take}
+use Rattle.std.specs.Prelude.{◌≡◌, ◌≤◌, List, ℕ, zero, suc, ◌+◌, ◌-◌, min, ℤ, pos, negsuc, length, take}
 use Rattle.file_reading.specs.declared.Progress.{Progress}
 use Rattle.file_reading.specs.declared.Progress.TheVariants.{Ended, Going}
+
+-- so many bytes of a buffer are its front, and there are so many
+abbrev pub IsPrefixLen : ℕ → List ℕ → Type 0
+IsPrefixLen n xs = (n ≤ length xs) × (n ≡ length (take n xs))
 
 -- `done` bytes of a buffer's `size` were read when the system answers a read. A negative answer: "A file that cannot be opened counts as empty",
 -- and so does one of which a read fails (docs/DECISIONS.md, D30). 0: the file ends here. Else: so many bytes more, no more than there is room for.

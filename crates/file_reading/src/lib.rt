@@ -1,8 +1,12 @@
 // A file read into a lent buffer, as far as the buffer has room.
 #![tactic(auto)]
+
 ghost use Rattle.std.specs.Prelude.{◌≡◌, ◌≤◌, length};
-ghost use Rattle.io.specs.Counts.{IsPrefixLen};
-ghost use Rattle.file_reading.specs.Reads.{after_read, ReadMore};
+ghost use Rattle.file_reading.specs.Reads.{after_read, IsPrefixLen, ReadMore};
+
+use std::fs;
+use std::io::Read;
+use std::rt::Files;
 
 // How far a file is read.
 #[derive(Clone, Copy)]
@@ -31,24 +35,26 @@ fn after_read(done: usize, size: usize, got: isize) -> Progress
     Progress::Going(size)
 }
 
-// One read, past the bytes that were read before. Here the contracts end: what the system answers, and that the bytes which it
-// then put there are the file's next, is assumed of it and promised nowhere.
-fn read_more(fd: i32, buf: &mut [u8], done: usize) -> Progress
+// One read, past the bytes that were read before; one that fails counts as the answer -1. Here the contracts end: what the system
+// answers, and that the bytes which it then put there are the file's next, is assumed of it and promised nowhere.
+fn read_more<F: Read>(file: &mut F, buf: &mut [u8], done: usize) -> Progress
     requires { done ≤ length buf.old }
     ensures { ReadMore buf.old buf.new done result }
 {
     let size = buf.len();
-    let got = libc::read(fd, &mut buf[done..]);
-    after_read(done, size, got)
+    match file.read(&mut buf[done..]) {
+        Ok(more) => after_read(done, size, more as isize),
+        Err(_) => after_read(done, size, -1),
+    }
 }
 
 // Reads until the buffer is full or the file ends.
-fn read_open(fd: i32, buf: &mut [u8]) -> usize
+fn read_open<F: Read>(file: &mut F, buf: &mut [u8]) -> usize
     ensures { IsPrefixLen result buf.new }
 {
     let mut done: usize = 0;
     while done < buf.len() {
-        match read_more(fd, buf, done) {
+        match read_more(file, buf, done) {
             Progress::Ended(n) => {
                 return n;
             }
@@ -61,15 +67,15 @@ fn read_open(fd: i32, buf: &mut [u8]) -> usize
 }
 
 // Puts the front of a file into the buffer, and answers how many bytes of it stand there. A file that cannot be opened counts as
-// empty.
-pub fn read_file(path: &[u8], buf: &mut [u8]) -> usize
+// empty, and so does one whose path is no text in UTF-8.
+pub fn read_file<R: Files>(files: &R, path: &[u8], buf: &mut [u8]) -> usize
     ensures { IsPrefixLen result buf.new }
 {
-    let fd = os::open_read(path);
-    if fd < 0 {
+    let Ok(path) = str::from_utf8(path) else {
         return 0;
+    };
+    match fs::open(files, path) {
+        Ok(mut file) => read_open(&mut file, buf),
+        Err(_) => 0,
     }
-    let n = read_open(fd, buf);
-    libc::close(fd);
-    n
 }

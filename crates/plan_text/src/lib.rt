@@ -1,6 +1,7 @@
 // The text that the program prints (document 01, "A trailer on the hitch"; document 02, W10), put into a lent slice: as much of it as the slice
 // has room for. A list is `paired` once its table has a 0x21: each condition is then shown with both masks.
 #![tactic(auto)]
+
 ghost use Rattle.std.specs.Prelude.{◌≡◌, [], ◌∷◌, ◌++◌, ◌≤◌, length};
 ghost use Rattle.text_fields.specs.Fields.{ascii, decimal};
 ghost use Rattle.text_fields.specs.Puts.{Put};

@@ -2,6 +2,7 @@
 // Each `put` stores from an offset on and answers where the next one goes. What has no room is dropped, and an offset past the
 // end is the end.
 #![tactic(auto)]
+
 ghost use Rattle.std.specs.Prelude.{◌≡◌, [], ◌∷◌, ℕ, suc, ◌^◌, ◌≤◌, ◌<◌, min};
 ghost use Rattle.text_fields.specs.Fields.{digit, digits, decimal, mask_text};
 ghost use Rattle.text_fields.specs.Puts.{Put, Highest};

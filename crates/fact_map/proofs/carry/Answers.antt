@@ -1,12 +1,7 @@
 -- `fact_map::carry` meets its contract. The loop's invariant: what was sent, with what goes from i on of the facts that are left, is all that goes.
-use mathlib.Core.Path.{◌≡◌, sym, ◌∙◌}
-use Prim.Native.Nat.{◌-◌, ◌≤◌}
+use mathlib.Core.Path.{sym, ◌∙◌}
 use native.Mathlib.Numerals.{add-one}
 use native.Mathlib.Omega.{arith}
-use borrow.Author.Rules.{rules}
-use lib.ListN.{length, drop}
-use Rattle.masks.specs.Sets.{union}
-use Rattle.fact_map.specs.Carry.{carried}
 use Rattle.fact_map.specs.CarryLaws.{carry_none, carry_next, carry_all}
 use Rattle.fact_map.proofs.carry.Goals as goal
 use Rattle.fact_map.proofs.carry.Lts as Lts

@@ -1,13 +1,9 @@
 -- `fact_map::carry` meets its contract. The loop's invariant: what was sent, with what goes from i on of the facts that are left, is all that goes.
-use mathlib.Core.Path.{◌≡◌, sym, ◌∙◌}
+use mathlib.Core.Path.{◌≡◌}
 use Prim.Native.Nat.{◌-◌, ◌≤◌}
-use native.Mathlib.Numerals.{add-one}
-use native.Mathlib.Omega.{arith}
-use borrow.Author.Rules.{rules}
 use lib.ListN.{length, drop}
 use Rattle.masks.specs.Sets.{union}
 use Rattle.fact_map.specs.Carry.{carried}
-use Rattle.fact_map.specs.CarryLaws.{carry_none, carry_next, carry_all}
 use Rattle.fact_map.proofs.carry.Given as goal
 
 abbrev pub invariant-loop-i : goal.invariant-loop-i

@@ -1,5 +1,4 @@
 -- `fact_map::carry_sets` meets its contract.
-use borrow.Author.Rules.{rules}
 use Rattle.fact_map.specs.Carry.{carried_sets}
 use Rattle.fact_map.proofs.carry_sets.Goals as goal
 

@@ -1,9 +1,7 @@
 -- `fact_map::check_map` meets its contract. The loop's invariant: the bytes from i on are judged, and the facts that they send to are known.
 use mathlib.Core.Path.{◌≡◌, sym, ap, ◌∙◌}
-use Prim.Native.Nat.{suc, ◌-◌, ◌≤◌, ◌<◌}
+use Prim.Native.Nat.{suc, ◌-◌, ◌<◌}
 use native.Mathlib.Omega.{arith}
-use borrow.Author.Rules.{rules}
-use borrow.Author.Tests.{not-true, not-false}
 use lib.ListN.{length}
 use Rattle.refusal.specs.Checked.{accepted}
 use Rattle.fact_map.specs.Carry.{map_checked_of}
@@ -57,7 +55,7 @@ returns-then-not-is_free c =
     let a = (start_of (loop_of f)).args in
     ap map_checked_of c.before.refuse-then-not-is_free.ensures
     ∙ map_none a.old a.new a.map.now (loop_of f).before.if-map-old.false
-    (judged_not a.new a.map.now (start_of (loop_of f)).pre ((loop_of f).loop-i.i - 1) (loop_of f).loop-i.taken (inside f) (judged f)
+    (judged_not a.new a.map.now (start_of (loop_of f)).requires ((loop_of f).loop-i.i - 1) (loop_of f).loop-i.taken (inside f) (judged f)
     (sym f.is_free.ensures ∙ c.before.before.if-not-is_free.true))
 
 pub loop-i-preserved : goal.loop-i-preserved
@@ -66,7 +64,7 @@ loop-i-preserved c =
     let a = (start_of (loop_of f)).args in (
       omega (arith, (loop_of f).loop-i.invariant.0),
       rw (c.before.join-taken.ensures, c.before.before.only.ensures)
-          (judged_next a.new a.map.now (start_of (loop_of f)).pre ((loop_of f).loop-i.i - 1) (loop_of f).loop-i.taken (inside f) (judged f)
+          (judged_next a.new a.map.now (start_of (loop_of f)).requires ((loop_of f).loop-i.i - 1) (loop_of f).loop-i.taken (inside f) (judged f)
           (sym f.is_free.ensures ∙ c.before.before.before.if-not-is_free.false)),
     )
 

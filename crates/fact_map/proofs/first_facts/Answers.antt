@@ -2,12 +2,11 @@
 use native.Mathlib.Omega.{arith}
 use native.Mathlib.Nat.{one-mul}
 use mathlib.Core.Path.{◌≡◌, ◌∙◌}
-use Prim.Native.Nat.{◌-◌, ◌*◌, ◌%◌, ◌^◌}
+use Prim.Native.Nat.{◌*◌, ◌%◌, ◌^◌}
 use lib.Pow.{pow_pos, shl_exact}
 use Rattle.fact_map.specs.Carry.{first_facts}
 use Rattle.fact_map.proofs.first_facts.Goals as goal
 use Rattle.fact_map.proofs.first_facts.Lts as Lts
-use Rattle.fact_map.proofs.first_facts.Tie as Tie
 use Rattle.fact_map.proofs.first_facts.Reads as Reads
 
 abbrev AtElse1 : Type 0

@@ -1,5 +1,4 @@
 -- `fact_map::first_sent` meets its contract: the first fact of a set is its last digit.
-use borrow.Author.Rules.{rules}
 use borrow.Author.Tests.{eq-eqb, ne_eqb}
 use Prim.Native.Nat.{◌%◌}
 use Rattle.fact_map.specs.Carry.{first_sent}

@@ -1,6 +1,5 @@
 -- `fact_map::is_free` meets its contract, test by test.
 use mathlib.Core.Path.{◌≡◌, sym, ◌∙◌}
-use borrow.Author.Rules.{rules}
 use borrow.Author.Tests.{eq-eqb, ne_eqb}
 use Rattle.masks.specs.Sets.{intersects}
 use Rattle.fact_map.specs.FactMap.{DROPPED}

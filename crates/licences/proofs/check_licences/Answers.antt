@@ -1,11 +1,9 @@
 -- `licences::check_licences` meets its contract. The loop's invariant: the licences before those that are left are sound.
 use mathlib.Core.Path.{◌≡◌, sym, ap, ◌∙◌}
-use Prim.Native.Nat.{suc, ◌-◌, ◌≤◌}
+use Prim.Native.Nat.{suc, ◌-◌}
 use native.Mathlib.Omega.{arith}
-use borrow.Author.Rules.{rules}
-use borrow.Author.Tests.{not-true, not-false}
 use Rattle.licences.specs.Licences.{licences_of}
-use Rattle.licences.specs.LicenceLaws.{SoundTo, other_length, sound_next, all_sound, first_bad}
+use Rattle.licences.specs.LicenceLaws.{other_length, sound_next, all_sound, first_bad}
 use Rattle.licences.proofs.check_licences.Goals as goal
 use Rattle.licences.proofs.check_licences.Lts as Lts
 use Rattle.licences.proofs.check_licences.Tie as Tie
@@ -48,7 +46,7 @@ returns-then-not-is_licence c =
     let l = t.before in
     let a = (start_of l.before).args in
     ap (licences_of a.licences.now) c.before.refuse-then-not-is_licence.ensures
-    ∙ first_bad a.jobs a.licences.now l.before.if-licences-jobs.left (a.jobs - l.loop-left.left) (omega (arith, t.loop-left-test.taken, l.loop-left.invariant.0)) l.loop-left.invariant.1
+    ∙ first_bad a.jobs a.licences.now l.before.if-licences-jobs.false (a.jobs - l.loop-left.left) (omega (arith, t.loop-left-test.true, l.loop-left.invariant.0)) l.loop-left.invariant.1
     (sym looked.is_licence.ensures ∙ c.before.before.if-not-is_licence.true)
 
 pub loop-left-preserved : goal.loop-left-preserved
@@ -57,7 +55,7 @@ loop-left-preserved c =
     let t = turn_of looked in
     let l = t.before in
     let a = (start_of l.before).args in
-    let next : suc (a.jobs - l.loop-left.left) ≡ a.jobs - (l.loop-left.left - 1) = omega (arith, t.loop-left-test.taken, l.loop-left.invariant.0) in (
+    let next : suc (a.jobs - l.loop-left.left) ≡ a.jobs - (l.loop-left.left - 1) = omega (arith, t.loop-left-test.true, l.loop-left.invariant.0) in (
       omega (arith, l.loop-left.invariant.0),
       rw next at (sound_next a.jobs a.licences.now (a.jobs - l.loop-left.left) l.loop-left.invariant.1
           (sym looked.is_licence.ensures ∙ c.before.if-not-is_licence.false)),

@@ -3,7 +3,6 @@ use mathlib.Core.Path.{ap}
 use Prim.Native.Nat.{ℕ}
 use lib.Dec.{eqb}
 use lib.ListN.{get_or-eq_default}
-use borrow.Author.Rules.{rules}
 use Rattle.base.specs.Lists.{get_d_inside}
 use Rattle.licences.specs.Licences.{FIRST}
 use Rattle.licences.proofs.has_licence.Goals as goal

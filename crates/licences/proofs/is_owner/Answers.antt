@@ -2,7 +2,6 @@
 use mathlib.Core.Bool.{Bool}
 use lib.Dec.{eqb}
 use lib.ListN.{get_or}
-use borrow.Author.Rules.{rules}
 use Rattle.licences.specs.Licences.{FIRST, SECOND}
 use Rattle.licences.specs.LicenceLaws.{first_owns, second_owns}
 use Rattle.licences.proofs.is_owner.Goals as goal
@@ -18,7 +17,7 @@ abbrev second_of : AtAfterSharedSliceKnown → Bool
 second_of c = let a = c.before.args in eqb (get_or a.licences.now a.job FIRST) SECOND
 
 pub returns-in-First : goal.returns-in-First
-returns-in-First c = rw (c.before.before.enum_told-1.given.1, c.before.has_licence.ensures) (first_owns (second_of c.before.before.before.before))
+returns-in-First c = rw (c.in-First.is, c.before.has_licence.ensures) (first_owns (second_of c.before.before.before))
 
 pub returns-in-Second : goal.returns-in-Second
-returns-in-Second c = rw (c.before.before.enum_told-in-Second-1.given.1, c.before.has_licence-in-Second.ensures) (second_owns (second_of c.before.before.before.before))
+returns-in-Second c = rw (c.in-Second.is, c.before.has_licence-in-Second.ensures) (second_owns (second_of c.before.before.before))

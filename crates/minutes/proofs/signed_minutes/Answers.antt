@@ -2,8 +2,6 @@
 use borrow.Author.Rules.{rules}
 use native.Mathlib.Omega.{arith}
 use Prim.Native.Nat.{◌-◌, ◌^◌}
-use borrow.Author.Tests.{eqb-true, eqb-false}
-use mathlib.Core.Logic.{inl, inr}
 use lib.IntN.{pos, negsuc}
 use mir.Syntax.{w64}
 use mir.Val.{SFits}
@@ -19,41 +17,41 @@ pub nonzero_rem-rest : goal.nonzero_rem-rest
 nonzero_rem-rest c = (search rules, quot_held _ c.ranges.seconds _)
 
 pub overflow_add-result : goal.overflow_add-result
-overflow_add-result c = let f = c.before.ranges.seconds in sum_fits _ f _ (omega arith)
+overflow_add-result c = let f = c.ranges.seconds in sum_fits _ f _ (omega arith)
 
 pub returns-then-rest-gt30 : goal.returns-then-rest-gt30
-returns-then-rest-gt30 c = let f = c.before.ranges.seconds in minutes_held _ f (up _ f c.if-rest-gt30.true)
+returns-then-rest-gt30 c = let f = c.ranges.seconds in minutes_held _ f (up _ f c.if-rest-gt30.true)
 
 pub overflow_sub-result : goal.overflow_sub-result
-overflow_sub-result c = let f = c.before.before.ranges.seconds in sum_fits _ f _ (omega arith)
+overflow_sub-result c = let f = c.ranges.seconds in sum_fits _ f _ (omega arith)
 
 pub returns-then-rest-ltminus30 : goal.returns-then-rest-ltminus30
-returns-then-rest-ltminus30 c = let f = c.before.before.ranges.seconds in minutes_held _ f (down _ f c.if-rest-ltminus30.true)
+returns-then-rest-ltminus30 c = let f = c.ranges.seconds in minutes_held _ f (down _ f c.if-rest-ltminus30.true)
 
 -- the remainder is 30 or -30, as 64 bits
-half : (c : lts.Joined3 reads.Pre reads.Post) → Half c.before.before.before.args.seconds
+half : (c : lts.Joined3 reads.Pre reads.Post) → Half c.args.seconds
 half c =
-    let f = c.before.before.before.ranges.seconds in
+    let f = c.ranges.seconds in
     elim c.then-rest-eq30.branch [
-      | inl h ↦ over (tested _ f 30 h.taken)
-      | inr h ↦ under (tested _ f (2 ^ 64 - 30) (eqb-true _ _ h.1.taken))
+      | lts.then-rest-eq30-via-then-rest-eq30 h ↦ over (tested _ f 30 h.if-rest-eq30.true)
+      | lts.then-rest-eq30-via-else-rest-eq30+then-rest h ↦ under (tested _ f (2 ^ 64 - 30) h.if-rest.true)
     ]
 
 pub nonzero_rem-result : goal.nonzero_rem-result
-nonzero_rem-result c = (search rules, again_held _ c.before.before.before.ranges.seconds _)
+nonzero_rem-result c = (search rules, again_held _ c.ranges.seconds _)
 
 pub overflow_add-result-then-rest-eq30 : goal.overflow_add-result-then-rest-eq30
-overflow_add-result-then-rest-eq30 c = let f = c.before.before.before.ranges.seconds in sum_fits _ f _ (rest_fits _ f _)
+overflow_add-result-then-rest-eq30 c = let f = c.ranges.seconds in sum_fits _ f _ (rest_fits _ f _)
 
 pub returns-then-rest-eq30 : goal.returns-then-rest-eq30
-returns-then-rest-eq30 c = let f = c.before.before.before.ranges.seconds in minutes_held _ f (even _ f (half c))
+returns-then-rest-eq30 c = let f = c.ranges.seconds in minutes_held _ f (even _ f (half c))
 
 pub returns : goal.returns
-returns c = less _ f c.before.before.before.if-rest-gt30.false c.before.before.if-rest-ltminus30.false not_half
+returns c = less _ f c.if-rest-gt30.false c.if-rest-ltminus30.false not_half
   where
-    f : SFits w64 c.before.before.before.before.args.seconds
-    f = c.before.before.before.before.ranges.seconds
+    f : SFits w64 c.args.seconds
+    f = c.ranges.seconds
 
-    not_half : Half c.before.before.before.before.args.seconds → ⊥
-    not_half (over e) = c.before.then-rest-eq30.false (untested _ f (pos 30) e)
-    not_half (under e) = eqb-false _ _ c.if-rest.false (untested _ f (negsuc 29) e)
+    not_half : Half c.args.seconds → ⊥
+    not_half (over e) = c.if-rest-eq30.false (untested _ f (pos 30) e)
+    not_half (under e) = c.if-rest.false (untested _ f (negsuc 29) e)

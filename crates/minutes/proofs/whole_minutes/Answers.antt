@@ -1,5 +1,4 @@
 -- A sum of 32 bits is a number of 64 bits that is not below zero, and its minutes are no more than its seconds.
-use borrow.Author.Rules.{rules}
 use native.Mathlib.Omega.{arith}
 use Prim.Native.Nat.{◌<◌, ◌^◌}
 use mir.Syntax.{w64}
@@ -12,13 +11,13 @@ use Rattle.minutes.proofs.whole_minutes.Goals as goal
 pub overflow_cast-result : goal.overflow_cast-result
 unfolding minutes_of
 overflow_cast-result c =
-    let f : SFits w64 c.signed_minutes.result = record { sfits = c.signed_minutes.type-inv } in
-    let h : c.before.args.seconds < 2 ^ 63 = omega arith in
-    rw (to_z-of_z f, rw (to_z_pos w64 h) at c.signed_minutes.ensures) (tt, record { fits = omega (arith, nearest_le c.before.args.seconds) })
+    let f : SFits w64 c.signed_minutes.result = record { sfits = c.signed_minutes.type_inv } in
+    let h : c.args.seconds < 2 ^ 63 = omega arith in
+    rw (to_z-of_z f, rw (to_z_pos w64 h) at c.signed_minutes.ensures) (tt, record { fits = omega (arith, nearest_le c.args.seconds) })
 
 pub returns : goal.returns
 unfolding minutes_of
 returns c =
-    let f : SFits w64 c.signed_minutes.result = record { sfits = c.signed_minutes.type-inv } in
-    let h : c.before.args.seconds < 2 ^ 63 = omega arith in
+    let f : SFits w64 c.signed_minutes.result = record { sfits = c.signed_minutes.type_inv } in
+    let h : c.args.seconds < 2 ^ 63 = omega arith in
     rw (to_z-of_z f, rw (to_z_pos w64 h) at c.signed_minutes.ensures)
