@@ -27,9 +27,9 @@ use Rattle.planning.specs.Columns.{max_entries}
 use Rattle.planning.specs.Listing.{Good}
 use Rattle.planning.specs.Expansion.{Entry, Outcome, exhausted, covered, full, entries, root, entry_in, listing}
 use Rattle.planning.specs.Demand.{CoveredBy, tick_list, Fewest}
-use Rattle.planning.specs.DemandLaws.{planned_fits, planned_full, planned_good, planned_action}
+use Rattle.planning.proofs.DemandLaws.{planned_fits, planned_full, planned_good, planned_action}
 use Rattle.planning.specs.Facts.{Actions, unit_domain, fact_plan, Separate, Plain, WithinFacts}
-use Rattle.planning.specs.FactLaws.{fact_plannable, fact_fewest_by, fact_irredundant, entry_within, consistent_conditions, plain_conditions}
+use Rattle.planning.proofs.FactLaws.{fact_plannable, fact_fewest_by, fact_irredundant, entry_within, consistent_conditions, plain_conditions}
 use Rattle.tree.specs.declared.Status.TheVariants.{Failure, Running, Unsettled}
 use Rattle.tree.specs.Tick.{tick_tree}
 use Rattle.tree.specs.TickBytes.{tick_bytes, answered}

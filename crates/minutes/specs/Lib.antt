@@ -1,2 +1,2 @@
 pub mod Minutes
-pub mod MinutesLaws
+pub mod NearestMinute

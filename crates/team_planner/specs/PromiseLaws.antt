@@ -15,7 +15,7 @@ use Rattle.conditions.specs.Condition.{plain}
 use Rattle.licences.specs.declared.Fitter.{Fitter}
 use Rattle.licences.specs.declared.Fitter.TheVariants.{First, Second}
 use Rattle.licences.specs.Licences.{FIRST, checked_licences, owner_of, owns, other_than}
-use Rattle.licences.specs.LicenceLaws.{licences_number, owner_owns, other_owns_not}
+use Rattle.licences.proofs.LicenceLaws.{licences_number, owner_owns, other_owns_not}
 use Rattle.table.specs.Table.{Table}
 use Rattle.table.specs.Read.{read_table}
 use Rattle.planning.specs.Domain.{Domain}
@@ -24,7 +24,7 @@ use Rattle.planning.specs.Listing.{path}
 use Rattle.planning.specs.Columns.{max_entries}
 use Rattle.planning.specs.Expansion.{Entry, Outcome, covered, entries, listing}
 use Rattle.planning.specs.Demand.{CoveredBy, FirstIn, Fewest}
-use Rattle.planning.specs.FactLaws.{fact_start_first, fact_no_way}
+use Rattle.planning.proofs.FactLaws.{fact_start_first, fact_no_way}
 use Rattle.tree.specs.declared.Status.{Status}
 use Rattle.tree.specs.declared.Status.TheVariants.{Success, Failure, Running, Unsettled, Waiting}
 use Rattle.tree.specs.Tick.{tick_tree}

@@ -14,7 +14,7 @@ use Rattle.planning.specs.Theory.{run_unique, run_named, run_transfer, first_met
 use Rattle.planning.specs.Expansion.{Entry, Outcome, exhausted, covered, full, entries, entry_in, expand, listing}
 use Rattle.planning.specs.Progress.{Progress, Sound}
 use Rattle.planning.specs.ProgressLaws.{exhausted_closed, entry_closed}
-use Rattle.planning.specs.ExpansionLaws.{expand_sound, expand_cut}
+use Rattle.planning.proofs.ExpansionLaws.{expand_sound, expand_cut}
 use Rattle.planning.specs.Demand.{FirstIn, CoveredBy, tick_later, tick_list, Fewest}
 
 module _ {State Condition : Type 0} (D : Domain State Condition ℕ) where

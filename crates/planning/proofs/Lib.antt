@@ -1,0 +1,4 @@
+pub mod SearchLaws
+pub mod ExpansionLaws
+pub mod DemandLaws
+pub mod FactLaws
