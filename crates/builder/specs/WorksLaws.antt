@@ -17,10 +17,10 @@ use Rattle.conditions.specs.OnReading.{Confirmed}
 use Rattle.conditions.specs.OnReadingLaws.{regressed_confirmed}
 use Rattle.numbers.specs.Numbers.{AreBytes}
 use Rattle.job.specs.Job.{action_of}
-use Rattle.job.specs.ValidationLaws.{action_within, effects_separate}
+use Rattle.job.proofs.ValidationLaws.{action_within, effects_separate}
 use Rattle.table.specs.Table.{Table}
 use Rattle.table.specs.Read.{read_table}
-use Rattle.table.specs.RoundTripLaws.{read_sound}
+use Rattle.table.proofs.RoundTripLaws.{read_sound}
 use Rattle.planning.specs.Domain.{Domain}
 use Rattle.planning.specs.Sequence.{Answer}
 use Rattle.planning.specs.Columns.{max_entries}

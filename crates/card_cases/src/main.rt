@@ -1,15 +1,16 @@
 // Runs a vehicle's day on one job card, with every refusal, and prints the card and the answer after each call. What is printed is compared
 // with the file `stdout`, which an account of the papers made that shares no code with ours. The card is lent to each call of `card_lent`.
 #![tactic(auto)]
+
 ghost use Rattle.std.specs.Prelude.{◌≡◌, nat_abs};
 ghost use Rattle.card.specs.Card.{Updated};
 ghost use Rattle.card_calls.specs.Calls.{opened, outside_read, reported};
 
 use card::{Card, CardAnswer, CardStep};
 use card_calls::JobReport;
-use libc::STDOUT_FILENO;
 use reading::Reading;
 use refusal::Refusal;
+use std::io;
 use tick::Ticked;
 
 // ---- the calls on a card that is lent: each lends its own
@@ -37,14 +38,12 @@ fn report(mut card: Card, table: &[u8], report: JobReport) -> CardStep
 
 // ---- what is printed
 
-fn number(n: u64) {
-    io::write_all(STDOUT_FILENO, b" ");
-    io::print_decimal(STDOUT_FILENO, n);
+fn number(rt: &impl Print, n: u64) -> io::Result<()> {
+    print!(rt; " {n}")
 }
 
-fn mask(m: u64) {
-    io::write_all(STDOUT_FILENO, b" ");
-    io::print_hex(STDOUT_FILENO, m, 2);
+fn mask(rt: &impl Print, m: u64) -> io::Result<()> {
+    print!(rt; " {m:02x}")
 }
 
 // A number without its sign. The least one of all has no opposite, so that it is taken from -1 first.
@@ -59,100 +58,118 @@ fn magnitude(n: i64) -> u64
 }
 
 // The card: its masks, its reports, its taken and planned seconds, and its lateness.
-fn show_card(card: Card) {
+fn show_card(rt: &impl Print, card: Card) -> io::Result<()> {
     let late = card::lateness(card);
-    io::write_all(STDOUT_FILENO, b" card");
-    mask(card.held);
-    mask(card.unread);
-    number(card.reports as u64);
-    number(card.taken as u64);
-    number(card.planned as u64);
+    print!(rt; " card")?;
+    mask(rt, card.held)?;
+    mask(rt, card.unread)?;
+    number(rt, card.reports as u64)?;
+    number(rt, card.taken as u64)?;
+    number(rt, card.planned as u64)?;
     if late < 0 {
-        io::write_all(STDOUT_FILENO, b" minus");
+        print!(rt; " minus")?;
     }
-    number(magnitude(late));
-    io::write_all(STDOUT_FILENO, b"\n");
+    number(rt, magnitude(late))?;
+    print!(rt; "\n")
 }
 
-fn show_refusal(x: Refusal) {
+fn show_refusal(rt: &impl Print, x: Refusal) -> io::Result<()> {
     let reason = x.reason;
-    io::write_all(STDOUT_FILENO, b" refused");
-    number(refusal::number(reason) as u64);
-    number(x.place as u64);
+    print!(rt; " refused")?;
+    number(rt, refusal::number(reason) as u64)?;
+    number(rt, x.place as u64)
 }
 
 // The answer of a call, and the card after it, which goes on.
-fn show(step: CardStep) -> Card {
+fn show(rt: &impl Print, step: CardStep) -> io::Result<Card> {
     let card = step.card;
     let answer = step.answer;
     match answer {
         CardAnswer::Done => {
-            io::write_all(STDOUT_FILENO, b" done");
+            print!(rt; " done")?;
         }
         CardAnswer::Refused(x) => {
-            show_refusal(x);
+            show_refusal(rt, x)?;
         }
     }
-    show_card(card);
-    card
+    show_card(rt, card)?;
+    Ok(card)
 }
 
-fn show_ticked(ticked: Ticked) {
+fn show_ticked(rt: &impl Print, ticked: Ticked) -> io::Result<()> {
     match ticked {
         Ticked::Success => {
-            io::write_all(STDOUT_FILENO, b" success");
+            print!(rt; " success")?;
         }
         Ticked::Failure => {
-            io::write_all(STDOUT_FILENO, b" failure");
+            print!(rt; " failure")?;
         }
         Ticked::Running(job) => {
-            io::write_all(STDOUT_FILENO, b" running");
-            number(job as u64);
+            print!(rt; " running")?;
+            number(rt, job as u64)?;
         }
         Ticked::Unsettled(facts) => {
-            io::write_all(STDOUT_FILENO, b" unsettled");
-            mask(facts);
+            print!(rt; " unsettled")?;
+            mask(rt, facts)?;
         }
         Ticked::Waiting => {
-            io::write_all(STDOUT_FILENO, b" waiting");
+            print!(rt; " waiting")?;
         }
         Ticked::Refused(x) => {
-            show_refusal(x);
+            show_refusal(rt, x)?;
         }
     }
-    io::write_all(STDOUT_FILENO, b"\n");
+    print!(rt; "\n")
 }
 
 // ---- the calls under a table; each goes on with the card that the one before left
 
-fn opens_under(card: Card, table: &[u8], held: u64, unread: u64) -> Card {
-    io::write_all(STDOUT_FILENO, b"open");
-    mask(held);
-    mask(unread);
-    show(open(card, table, Reading { held, unread }))
+fn opens_under(
+    rt: &impl Print,
+    card: Card,
+    table: &[u8],
+    held: u64,
+    unread: u64,
+) -> io::Result<Card> {
+    print!(rt; "open")?;
+    mask(rt, held)?;
+    mask(rt, unread)?;
+    show(rt, open(card, table, Reading { held, unread }))
 }
 
-fn reads_under(card: Card, table: &[u8], held: u64, unread: u64) -> Card {
-    io::write_all(STDOUT_FILENO, b"read");
-    mask(held);
-    mask(unread);
-    show(read_outside(card, table, Reading { held, unread }))
+fn reads_under(
+    rt: &impl Print,
+    card: Card,
+    table: &[u8],
+    held: u64,
+    unread: u64,
+) -> io::Result<Card> {
+    print!(rt; "read")?;
+    mask(rt, held)?;
+    mask(rt, unread)?;
+    show(rt, read_outside(card, table, Reading { held, unread }))
 }
 
-fn reports_under(card: Card, table: &[u8], job: usize, taken: u16) -> Card {
-    io::write_all(STDOUT_FILENO, b"report");
-    number(job as u64);
-    number(taken as u64);
-    show(report(card, table, JobReport { job, taken }))
+fn reports_under(
+    rt: &impl Print,
+    card: Card,
+    table: &[u8],
+    job: usize,
+    taken: u16,
+) -> io::Result<Card> {
+    print!(rt; "report")?;
+    number(rt, job as u64)?;
+    number(rt, taken as u64)?;
+    show(rt, report(card, table, JobReport { job, taken }))
 }
 
 // On the tree of document 01's first marked case: FALLBACK 8; the conditions 0x10, 0x0c, 0x09, 0x06, 0x0a, 0x03, 0x05 and 0x02, each after the
 // first with its job 4, 2, 3, 1, 3, 0 and 3; END.
-fn ticks_under(card: Card, table: &[u8]) {
+fn ticks_under(rt: &impl Print, card: Card, table: &[u8]) -> io::Result<()> {
     let tree =
         b"\x41\x08\x00\x43\x10\x00\x00\x00\x00\x00\x00\x00\x42\x02\x00\x43\x0c\x00\x00\x00\x00\x00\x00\x00\x44\x04\x42\x02\x00\x43\x09\x00\x00\x00\x00\x00\x00\x00\x44\x02\x42\x02\x00\x43\x06\x00\x00\x00\x00\x00\x00\x00\x44\x03\x42\x02\x00\x43\x0a\x00\x00\x00\x00\x00\x00\x00\x44\x01\x42\x02\x00\x43\x03\x00\x00\x00\x00\x00\x00\x00\x44\x03\x42\x02\x00\x43\x05\x00\x00\x00\x00\x00\x00\x00\x44\x00\x42\x02\x00\x43\x02\x00\x00\x00\x00\x00\x00\x00\x44\x03\x4f";
-    io::write_all(STDOUT_FILENO, b"tick");
-    show_ticked(card_calls::tick_card(card, table, tree));
+    print!(rt; "tick")?;
+    show_ticked(rt, card_calls::tick_card(card, table, tree))
 }
 
 // ---- the same under document 01's trailer
@@ -162,24 +179,24 @@ fn trailer() -> [u8; 147] {
     *b"\x10\x05\x20\x01\x00\x00\x00\x00\x00\x00\x00\x02\x00\x00\x00\x00\x00\x00\x00\x01\x00\x00\x00\x00\x00\x00\x00\x2c\x01\x20\x02\x00\x00\x00\x00\x00\x00\x00\x01\x00\x00\x00\x00\x00\x00\x00\x02\x00\x00\x00\x00\x00\x00\x00\xf0\x00\x20\x01\x00\x00\x00\x00\x00\x00\x00\x04\x00\x00\x00\x00\x00\x00\x00\x00\x00\x00\x00\x00\x00\x00\x00\x58\x02\x20\x02\x00\x00\x00\x00\x00\x00\x00\x08\x00\x00\x00\x00\x00\x00\x00\x00\x00\x00\x00\x00\x00\x00\x00\x58\x02\x20\x0c\x00\x00\x00\x00\x00\x00\x00\x10\x00\x00\x00\x00\x00\x00\x00\x00\x00\x00\x00\x00\x00\x00\x00\x96\x00\x30\x10\x00\x00\x00\x00\x00\x00\x00\x3f"
 }
 
-fn opens(card: Card, held: u64, unread: u64) -> Card {
-    opens_under(card, &trailer(), held, unread)
+fn opens(rt: &impl Print, card: Card, held: u64, unread: u64) -> io::Result<Card> {
+    opens_under(rt, card, &trailer(), held, unread)
 }
 
-fn reads(card: Card, held: u64, unread: u64) -> Card {
-    reads_under(card, &trailer(), held, unread)
+fn reads(rt: &impl Print, card: Card, held: u64, unread: u64) -> io::Result<Card> {
+    reads_under(rt, card, &trailer(), held, unread)
 }
 
-fn reports(card: Card, job: usize, taken: u16) -> Card {
-    reports_under(card, &trailer(), job, taken)
+fn reports(rt: &impl Print, card: Card, job: usize, taken: u16) -> io::Result<Card> {
+    reports_under(rt, card, &trailer(), job, taken)
 }
 
-fn ticks(card: Card) {
-    ticks_under(card, &trailer());
+fn ticks(rt: &impl Print, card: Card) -> io::Result<()> {
+    ticks_under(rt, card, &trailer())
 }
 
 // The same card, with counts as other days leave them.
-fn counts(card: Card, reports: u16, taken: u32, planned: u32) -> Card {
+fn counts(rt: &impl Print, card: Card, reports: u16, taken: u32, planned: u32) -> io::Result<Card> {
     let next = Card {
         held: card.held,
         unread: card.unread,
@@ -187,90 +204,90 @@ fn counts(card: Card, reports: u16, taken: u32, planned: u32) -> Card {
         taken,
         planned,
     };
-    show_card(next);
-    next
+    show_card(rt, next)?;
+    Ok(next)
 }
 
 // ---- the day
 
 // Openings that are refused: by the table, before the reading; by a held or an unread fact at or above F; by a shared fact. Then one that is not.
-fn morning(first: Card) -> Card {
-    let mut card = opens_under(first, b"", 0x20, 0x00);
-    card = opens(card, 0x20, 0x00);
-    card = opens(card, 0x02, 0x20);
-    card = opens(card, 0x02, 0x0a);
-    opens(card, 0x02, 0x08)
+fn morning(rt: &impl Print, first: Card) -> io::Result<Card> {
+    let mut card = opens_under(rt, first, b"", 0x20, 0x00)?;
+    card = opens(rt, card, 0x20, 0x00)?;
+    card = opens(rt, card, 0x02, 0x20)?;
+    card = opens(rt, card, 0x02, 0x0a)?;
+    opens(rt, card, 0x02, 0x08)
 }
 
 // Reports of jobs that the table does not have, and of jobs with a need that is absent or unread.
-fn wrong_reports(first: Card) -> Card {
-    let mut card = reports_under(first, b"", 5, 60);
-    card = reports(card, 5, 60);
-    card = reports(card, 256, 60);
-    card = reports(card, 18446744073709551615, 60);
-    card = reports(card, 2, 60);
-    card = reads(card, 0x06, 0x08);
-    ticks(card);
-    reports(card, 4, 60)
+fn wrong_reports(rt: &impl Print, first: Card) -> io::Result<Card> {
+    let mut card = reports_under(rt, first, b"", 5, 60)?;
+    card = reports(rt, card, 5, 60)?;
+    card = reports(rt, card, 256, 60)?;
+    card = reports(rt, card, 18446744073709551615, 60)?;
+    card = reports(rt, card, 2, 60)?;
+    card = reads(rt, card, 0x06, 0x08)?;
+    ticks(rt, card)?;
+    reports(rt, card, 4, 60)
 }
 
-fn wrong_readings(first: Card) -> Card {
-    let mut card = reads_under(first, b"\x10\x41", 0x40, 0x00);
-    card = reads(card, 0x40, 0x00);
-    card = reads(card, 0x02, 0x40);
-    card = reads(card, 0x02, 0x02);
-    reads(card, 0x02, 0x08)
+fn wrong_readings(rt: &impl Print, first: Card) -> io::Result<Card> {
+    let mut card = reads_under(rt, first, b"\x10\x41", 0x40, 0x00)?;
+    card = reads(rt, card, 0x40, 0x00)?;
+    card = reads(rt, card, 0x02, 0x40)?;
+    card = reads(rt, card, 0x02, 0x02)?;
+    reads(rt, card, 0x02, 0x08)
 }
 
 // The way of the trailer, done as the ticks say, late and early.
-fn work(first: Card) -> Card {
-    ticks(first);
-    let mut card = reports(first, 3, 630);
-    ticks(card);
-    card = reports(card, 1, 331);
-    ticks(card);
-    card = reports(card, 2, 1);
-    ticks(card);
-    card = reports(card, 4, 65535);
-    ticks(card);
-    card
+fn work(rt: &impl Print, first: Card) -> io::Result<Card> {
+    ticks(rt, first)?;
+    let mut card = reports(rt, first, 3, 630)?;
+    ticks(rt, card)?;
+    card = reports(rt, card, 1, 331)?;
+    ticks(rt, card)?;
+    card = reports(rt, card, 2, 1)?;
+    ticks(rt, card)?;
+    card = reports(rt, card, 4, 65535)?;
+    ticks(rt, card)?;
+    Ok(card)
 }
 
 // Under a table of four facts and no job the card's masks are refused, until an outside reading replaces them.
-fn elsewhere(first: Card) -> Card {
+fn elsewhere(rt: &impl Print, first: Card) -> io::Result<Card> {
     let four = b"\x10\x04\x30\x08\x00\x00\x00\x00\x00\x00\x00\x3f";
-    ticks_under(first, four);
-    let mut card = reports_under(first, four, 0, 60);
-    card = reads_under(card, four, 0x0d, 0x02);
-    ticks_under(card, four);
-    reports_under(card, four, 0, 60)
+    ticks_under(rt, first, four)?;
+    let mut card = reports_under(rt, first, four, 0, 60)?;
+    card = reads_under(rt, card, four, 0x0d, 0x02)?;
+    ticks_under(rt, card, four)?;
+    reports_under(rt, card, four, 0, 60)
 }
 
 // 18 by the count, after 17 and after the last report that fits; a reading is still taken.
-fn many_reports(first: Card) -> Card {
-    let mut card = reads(first, 0x01, 0x00);
-    card = counts(card, 65534, 4294770690, 353883600);
-    card = reports(card, 0, 65535);
-    card = reports(card, 1, 1);
-    card = reports(card, 0, 1);
-    reads(card, 0x02, 0x01)
+fn many_reports(rt: &impl Print, first: Card) -> io::Result<Card> {
+    let mut card = reads(rt, first, 0x01, 0x00)?;
+    card = counts(rt, card, 65534, 4294770690, 353883600)?;
+    card = reports(rt, card, 0, 65535)?;
+    card = reports(rt, card, 1, 1)?;
+    card = reports(rt, card, 0, 1)?;
+    reads(rt, card, 0x02, 0x01)
 }
 
 // 18 by each sum, one past its limit and at it; the lateness at its ends; and a new card.
-fn large_sums(first: Card) -> Card {
-    let mut card = counts(first, 1, 65536, 5400);
-    card = reports(card, 3, 1);
-    card = counts(card, 1, 65535, 5401);
-    card = reports(card, 3, 1);
-    card = counts(card, 1, 65535, 5400);
-    card = reports(card, 3, 1);
-    card = counts(card, 0, 0, 4294967295);
-    card = reports(card, 3, 1);
-    card = counts(card, 0, 4294967295, 0);
-    opens(card, 0x01, 0x00)
+fn large_sums(rt: &impl Print, first: Card) -> io::Result<Card> {
+    let mut card = counts(rt, first, 1, 65536, 5400)?;
+    card = reports(rt, card, 3, 1)?;
+    card = counts(rt, card, 1, 65535, 5401)?;
+    card = reports(rt, card, 3, 1)?;
+    card = counts(rt, card, 1, 65535, 5400)?;
+    card = reports(rt, card, 3, 1)?;
+    card = counts(rt, card, 0, 0, 4294967295)?;
+    card = reports(rt, card, 3, 1)?;
+    card = counts(rt, card, 0, 4294967295, 0)?;
+    opens(rt, card, 0x01, 0x00)
 }
 
-fn main() {
+fn main(rt: HostRuntime) -> io::Result<()> {
     let mut card = Card {
         held: 0x0f,
         unread: 0x81,
@@ -278,12 +295,13 @@ fn main() {
         taken: 100,
         planned: 251,
     };
-    show_card(card);
-    card = morning(card);
-    card = wrong_reports(card);
-    card = wrong_readings(card);
-    card = work(card);
-    card = elsewhere(card);
-    card = many_reports(card);
-    large_sums(card);
+    show_card(&rt, card)?;
+    card = morning(&rt, card)?;
+    card = wrong_reports(&rt, card)?;
+    card = wrong_readings(&rt, card)?;
+    card = work(&rt, card)?;
+    card = elsewhere(&rt, card)?;
+    card = many_reports(&rt, card)?;
+    large_sums(&rt, card)?;
+    Ok(())
 }

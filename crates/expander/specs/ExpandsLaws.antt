@@ -24,7 +24,7 @@ use Rattle.planning.proofs.ExpansionLaws.{expand_sound}
 use Rattle.planning.specs.Demand.{FirstIn}
 use Rattle.planning.proofs.DemandLaws.{planned_fits, planned_good, planned_action, planned_depth, covered_nonempty, exhausted_nonempty}
 use Rattle.planning.specs.Columns.{entry_at}
-use Rattle.planning.specs.ColumnLaws.{length_prefix, get_d_prefix}
+use Rattle.planning.proofs.ColumnLaws.{length_prefix, get_d_prefix}
 use Rattle.planning.specs.Facts.{Actions, unit_domain, Separate, WithinFacts}
 use Rattle.planning.proofs.FactLaws.{fact_plannable, fact_start_first, fact_no_way, entry_within}
 use Rattle.expander.specs.declared.Expanded.{Expanded}

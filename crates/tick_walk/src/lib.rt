@@ -1,6 +1,7 @@
 // One walk over the bytes of a tree checks every node and, while the answer is open, ticks it (document 01, "Ticking", and 13 to 15 of "Stops, in
 // checking order"; document 02, W12).
 #![tactic(auto)]
+
 ghost use Rattle.std.specs.Prelude.{◌≡◌, true, ◌<◌};
 ghost use Rattle.refusal.specs.Checked.{accepted};
 ghost use Rattle.tree.specs.ReadTree.{branch, node_at};

@@ -10,7 +10,7 @@ use Rattle.reading.specs.Reading.{sound, checked_at}
 use Rattle.conditions.specs.OnReading.{possible, evaluated}
 use Rattle.table.specs.Read.{due, read_end, read_goal, read_jobs, read_table}
 use Rattle.tree.specs.declared.Status.TheVariants.{Success, Failure, Running, Unsettled, Waiting}
-use Rattle.tree.specs.ReadTree.{count_width, whole_at, operands_of, node_at, read_row, read_node, read_tree, read_end as readTreeEnd}
+use Rattle.tree.specs.ReadTree.{count_width, whole_at, operands_of, node_at, read_row, read_node, read_tree, read_end as read_tree_end}
 use Rattle.tree.specs.Tick.{tick_by}
 use Rattle.tree.specs.TickBytes.{tick_checked, tick_bytes}
 
