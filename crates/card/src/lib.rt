@@ -1,6 +1,7 @@
 // The job card of a vehicle: its masks, its counts, what one more report makes of them, and the lateness that is read off it
 // (document 01, "Job card"). The calls on it, which begin with a table's checks, are in `card_calls`.
 #![tactic(auto)]
+
 ghost use Rattle.std.specs.Prelude.{◌≡◌, false, pos, ◌-ℤ◌};
 ghost use Rattle.card.specs.Card.{masks_of, new_card, with_masks, with_report, exhausted, booked, lateness_of, Updated};
 

@@ -1,6 +1,7 @@
 // The distances of all states, worked out forward in sweeps over a lent row that has a label for each state (document 02, W13). An action is
 // document 01's job.
 #![tactic(auto)]
+
 ghost use Rattle.std.specs.Prelude.{◌<◌, length};
 ghost use Rattle.conditions.specs.declared.Condition.{Condition};
 ghost use Rattle.conditions.specs.Condition.{plain};

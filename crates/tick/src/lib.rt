@@ -1,6 +1,7 @@
 // The tick of a tree's bytes on a reading: the walk over its nodes, then END, and the answer (document 01, "Ticking" and "Stops, in checking order";
 // document 02, W12).
 #![tactic(auto)]
+
 ghost use Rattle.std.specs.Prelude.{◌≡◌};
 ghost use Rattle.tree.specs.Tree.{Tree};
 ghost use Rattle.tree.specs.ReadTree.{read_end, read_tree};
