@@ -1,9 +1,8 @@
 -- What the parts of the code leave comes to the plan for the team that the definition gives, and what its answer tells.
 -- Assumes nothing.
-use Rattle.std.specs.Prelude.{ℕ, ◌≤◌, ◌<◌, ◌≡◌, refl, Bool, true, false, ◌&&◌, List, ◌++◌, leb, length, drop}
+use Rattle.std.specs.Prelude.{ℕ, ◌≤◌, ◌<◌, ◌≡◌, refl, Bool, true, false, ◌&&◌, List, ◌++◌, leb, length, drop, if◌then◌else◌}
 use Rattle.std.proofs.Common.{arith, sym, ap, ◌∙◌, le-leb, leb-false}
 use Rattle.std.proofs.lemmas.Bool.{lt-leb}
-use Rattle.base.specs.Bools.{if◌then◌else◌}
 use Rattle.refusal.specs.Checked.{Checked, accepted, refused, and_then}
 use Rattle.refusal.specs.CheckedLaws.{accepted_then}
 use Rattle.reading.specs.declared.Reading.{Reading}
