@@ -20,8 +20,8 @@ use Rattle.conditions.specs.Condition.{condition_within}
 use Rattle.table.specs.declared.Header.{Header}
 use Rattle.table.specs.Table.{Table}
 use Rattle.table.specs.Read.{read_table, header_of, headed}
-use Rattle.table.specs.ReadLaws.{headed_refused, headed_sound}
-use Rattle.table.specs.RoundTripLaws.{read_sound}
+use Rattle.table.proofs.ReadLaws.{headed_refused, headed_sound}
+use Rattle.table.proofs.RoundTripLaws.{read_sound}
 use Rattle.planning.specs.Expansion.{Entry}
 use Rattle.planning.specs.Columns.{max_entries, entry_at}
 use Rattle.tree.specs.declared.Status.{Status}

@@ -15,9 +15,9 @@ use Rattle.job.specs.Job.{no_job, action_of}
 use Rattle.table.specs.declared.Header.{Header}
 use Rattle.table.specs.Table.{Table, max_jobs}
 use Rattle.table.specs.Read.{read_table, jobs_of, header_of, headed}
-use Rattle.table.specs.ReadLaws.{headed_sound}
-use Rattle.table.specs.PairLaws.{pair_some, pair_none}
-use Rattle.table.specs.RoundTripLaws.{read_sound, read_storable}
+use Rattle.table.proofs.ReadLaws.{headed_sound}
+use Rattle.table.proofs.PairLaws.{pair_some, pair_none}
+use Rattle.table.proofs.RoundTripLaws.{read_sound, read_storable}
 use Rattle.job_rows.specs.Rows.{loaded}
 use Rattle.job_rows.specs.RowLaws.{load_whole}
 use Rattle.planning.specs.Facts.{Actions}

@@ -17,19 +17,19 @@ use Rattle.conditions.specs.OnReading.{Confirmed}
 use Rattle.conditions.specs.OnReadingLaws.{regressed_confirmed}
 use Rattle.numbers.specs.Numbers.{AreBytes}
 use Rattle.job.specs.Job.{action_of}
-use Rattle.job.specs.ValidationLaws.{action_within, effects_separate}
+use Rattle.job.proofs.ValidationLaws.{action_within, effects_separate}
 use Rattle.table.specs.Table.{Table}
 use Rattle.table.specs.Read.{read_table}
-use Rattle.table.specs.RoundTripLaws.{read_sound}
+use Rattle.table.proofs.RoundTripLaws.{read_sound}
 use Rattle.planning.specs.Domain.{Domain}
 use Rattle.planning.specs.Sequence.{Answer}
 use Rattle.planning.specs.Columns.{max_entries}
 use Rattle.planning.specs.Listing.{Good}
 use Rattle.planning.specs.Expansion.{Entry, Outcome, exhausted, covered, full, entries, root, entry_in, listing}
 use Rattle.planning.specs.Demand.{CoveredBy, tick_list, Fewest}
-use Rattle.planning.specs.DemandLaws.{planned_fits, planned_full, planned_good, planned_action}
+use Rattle.planning.proofs.DemandLaws.{planned_fits, planned_full, planned_good, planned_action}
 use Rattle.planning.specs.Facts.{Actions, unit_domain, fact_plan, Separate, Plain, WithinFacts}
-use Rattle.planning.specs.FactLaws.{fact_plannable, fact_fewest_by, fact_irredundant, entry_within, consistent_conditions, plain_conditions}
+use Rattle.planning.proofs.FactLaws.{fact_plannable, fact_fewest_by, fact_irredundant, entry_within, consistent_conditions, plain_conditions}
 use Rattle.tree.specs.declared.Status.TheVariants.{Failure, Running, Unsettled}
 use Rattle.tree.specs.Tick.{tick_tree}
 use Rattle.tree.specs.TickBytes.{tick_bytes, answered}

@@ -20,9 +20,9 @@ use Rattle.job.specs.Job.{no_job, action_of}
 use Rattle.table.specs.Table.{Table}
 use Rattle.table.specs.Read.{read_table, named_job}
 use Rattle.job.specs.Validation.{SoundJob}
-use Rattle.job.specs.ValidationLaws.{action_within}
-use Rattle.table.specs.ReadLaws.{named_job_is}
-use Rattle.table.specs.RoundTripLaws.{read_sound}
+use Rattle.job.proofs.ValidationLaws.{action_within}
+use Rattle.table.proofs.ReadLaws.{named_job_is}
+use Rattle.table.proofs.RoundTripLaws.{read_sound}
 use Rattle.card.specs.declared.Card.{Card}
 use Rattle.card.specs.Card.{masks_of, with_masks, with_report, max_reports, max_listed, exhausted, Bounded, booked, answer_due}
 use Rattle.card.specs.CardLaws.{booked_missing, booked_exhausted, room, not_exhausted, planned_over, with_report_bounded}

@@ -2,6 +2,7 @@
 // finished job, and ticked (document 01, "Job card"). Each takes the card by value and returns the next one; `card_lent` has them on a
 // card that is lent.
 #![tactic(auto)]
+
 ghost use Rattle.std.specs.Prelude.{◌≡◌};
 ghost use Rattle.table.specs.Read.{table_read_of, headed};
 ghost use Rattle.tick.specs.Answers.{Answers};

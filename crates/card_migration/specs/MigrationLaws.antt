@@ -15,7 +15,7 @@ use Rattle.fact_map.specs.FactMap.{mapped_reading}
 use Rattle.fact_map.specs.FactMapLaws.{mapped_told, carried_over_sound}
 use Rattle.table.specs.Table.{Table}
 use Rattle.table.specs.Read.{read_table}
-use Rattle.table.specs.RoundTripLaws.{read_sound}
+use Rattle.table.proofs.RoundTripLaws.{read_sound}
 use Rattle.card.specs.declared.Card.{Card}
 use Rattle.card.specs.Card.{masks_of, with_masks}
 use Rattle.card_migration.specs.Migration.{migrated_masks, migrated}

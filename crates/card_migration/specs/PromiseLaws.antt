@@ -15,7 +15,7 @@ use Rattle.job.specs.declared.Job.{Job}
 use Rattle.job.specs.Job.{no_job, action_of}
 use Rattle.table.specs.Table.{Table}
 use Rattle.table.specs.Read.{read_table, named_job}
-use Rattle.table.specs.RoundTripLaws.{read_sound}
+use Rattle.table.proofs.RoundTripLaws.{read_sound}
 use Rattle.tree.specs.Tick.{Verdict}
 use Rattle.tree.specs.TickBytes.{tick_bytes}
 use Rattle.card.specs.declared.Card.{Card}

@@ -8,7 +8,7 @@ use Rattle.planning.specs.Sequence.{Reaches}
 use Rattle.planning.specs.Expansion.{Entry, exhausted, expand}
 use Rattle.planning.specs.Demand.{CoveredBy}
 use Rattle.planning.specs.Facts.{Actions, unit_domain, Separate}
-use Rattle.planning.specs.FactLaws.{fact_distance, fact_covered_iff}
+use Rattle.planning.proofs.FactLaws.{fact_distance, fact_covered_iff}
 use Rattle.distance_steps.specs.Distance.{Distance, fewest, none}
 use Rattle.distances.specs.Measure.{Agrees}
 

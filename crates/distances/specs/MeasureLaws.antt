@@ -17,7 +17,7 @@ use Rattle.job.specs.Job.{action_of}
 use Rattle.table.specs.declared.Header.{Header}
 use Rattle.table.specs.Table.{Table}
 use Rattle.table.specs.Read.{read_table, jobs_of, headed}
-use Rattle.table.specs.RoundTripLaws.{read_sound}
+use Rattle.table.proofs.RoundTripLaws.{read_sound}
 use Rattle.job_rows.specs.Rows.{loaded}
 use Rattle.job_rows.specs.RowLaws.{load_whole}
 use Rattle.planning.specs.Facts.{Actions}

@@ -19,10 +19,10 @@ use Rattle.conditions.specs.Search.{newest_weaker}
 use Rattle.conditions.specs.ConditionLaws.{plain_regressed}
 use Rattle.planning.specs.Domain.{Domain}
 use Rattle.planning.specs.Expansion.{Entry, exhausted, covered, full, root, entry_in, new_condition, new_entry, wanted, remaining_from, remaining_at}
-use Rattle.planning.specs.ExpansionSteps.{start_full, start_covered, start_going, enter_entry, leave_entry, last_entry, skip_action, list_full, list_ends}
-use Rattle.planning.specs.ExpansionSteps.{list_grows}
-use Rattle.planning.specs.SearchLaws.{wanted_intro, unwanted_irrelevant, unwanted_unsatisfiable, unwanted_listed}
-use Rattle.planning.specs.ColumnLaws.{length_prefix, get_d_prefix, entries_store}
+use Rattle.planning.proofs.ExpansionSteps.{start_full, start_covered, start_going, enter_entry, leave_entry, last_entry, skip_action, list_full, list_ends}
+use Rattle.planning.proofs.ExpansionSteps.{list_grows}
+use Rattle.planning.proofs.SearchLaws.{wanted_intro, unwanted_irrelevant, unwanted_unsatisfiable, unwanted_listed}
+use Rattle.planning.proofs.ColumnLaws.{length_prefix, get_d_prefix, entries_store}
 use Rattle.planning.specs.Facts.{Actions, unit_domain, fact_plan}
 use Rattle.expander.specs.Expands.{count_of, actions_of, Columns, room, held, Unlent}
 use Rattle.expander.specs.ExpandsLaws.{count_needs, count_adds, count_deletes, count_most, entry_of, nowhere_unlisted}

@@ -17,7 +17,7 @@ use Rattle.refusal.specs.Checked.{accepted, and_then}
 use Rattle.conditions.specs.declared.Condition.{Condition}
 use Rattle.planning.specs.Expansion.{Entry, entries}
 use Rattle.planning.specs.Columns.{prefix}
-use Rattle.planning.specs.ColumnLaws.{length_prefix}
+use Rattle.planning.proofs.ColumnLaws.{length_prefix}
 use Rattle.planning.specs.Facts.{Actions, fact_plan}
 use Rattle.expander.specs.declared.Expanded.{Expanded}
 use Rattle.expander.specs.declared.Until.{Until}

@@ -18,15 +18,15 @@ use Rattle.planning.specs.Domain.{Domain}
 use Rattle.planning.specs.Sequence.{Reaches}
 use Rattle.planning.specs.Listing.{Derived}
 use Rattle.planning.specs.Expansion.{Entry, Outcome, exhausted, covered, full, entries, entry_in, listing, listed}
-use Rattle.planning.specs.SearchLaws.{some_listed, none_listed}
+use Rattle.planning.proofs.SearchLaws.{some_listed, none_listed}
 use Rattle.planning.specs.Progress.{Sound}
-use Rattle.planning.specs.ExpansionLaws.{expand_sound}
+use Rattle.planning.proofs.ExpansionLaws.{expand_sound}
 use Rattle.planning.specs.Demand.{FirstIn}
-use Rattle.planning.specs.DemandLaws.{planned_fits, planned_good, planned_action, planned_depth, covered_nonempty, exhausted_nonempty}
+use Rattle.planning.proofs.DemandLaws.{planned_fits, planned_good, planned_action, planned_depth, covered_nonempty, exhausted_nonempty}
 use Rattle.planning.specs.Columns.{entry_at}
-use Rattle.planning.specs.ColumnLaws.{length_prefix, get_d_prefix}
+use Rattle.planning.proofs.ColumnLaws.{length_prefix, get_d_prefix}
 use Rattle.planning.specs.Facts.{Actions, unit_domain, Separate, WithinFacts}
-use Rattle.planning.specs.FactLaws.{fact_plannable, fact_start_first, fact_no_way, entry_within}
+use Rattle.planning.proofs.FactLaws.{fact_plannable, fact_start_first, fact_no_way, entry_within}
 use Rattle.expander.specs.declared.Expanded.{Expanded}
 use Rattle.expander.specs.declared.Expanded.TheVariants as X
 use Rattle.expander.specs.declared.Until.{Until}

@@ -2,6 +2,7 @@
 // second masks and actions. It is `paired` once its table has a 0x21: each condition is then written with both masks. The tree is that of one fitter:
 // where an action is the other's, he waits. Without licences all actions are the first fitter's.
 #![tactic(auto)]
+
 ghost use Rattle.std.specs.Prelude.{◌≡◌, Bool, List, ◌∷◌, ◌++◌, ℕ, ◌+◌, ◌*◌, ◌≤◌, length, drop};
 ghost use Rattle.commands.specs.Commands.{JOB_LEAF_SIZE, MASK_WIDTH};
 ghost use Rattle.numbers.specs.Numbers.{to_bytes};

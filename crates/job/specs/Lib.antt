@@ -1,4 +1,2 @@
 pub mod Job
 pub mod Validation
-pub mod JobLaws
-pub mod ValidationLaws

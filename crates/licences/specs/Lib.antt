@@ -1,2 +1,1 @@
 pub mod Licences
-pub mod LicenceLaws

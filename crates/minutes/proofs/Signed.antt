@@ -14,7 +14,7 @@ use mir.Syntax.{w64}
 use mir.Val.{SFits, of_z, to_z}
 use mir.Facts.{to_z-of_z}
 use Rattle.minutes.specs.Minutes.{nearest, minutes_of}
-use Rattle.minutes.specs.MinutesLaws.{nearest_up, nearest_half, nearest_down, nearest_is}
+use Rattle.minutes.proofs.MinutesLaws.{nearest_up, nearest_half, nearest_down, nearest_is}
 
 -- ---- all fit 64 bits
 

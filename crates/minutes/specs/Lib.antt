@@ -1,2 +1,1 @@
 pub mod Minutes
-pub mod MinutesLaws

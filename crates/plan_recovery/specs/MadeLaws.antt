@@ -14,8 +14,8 @@ use Rattle.table.specs.Table.{Table}
 use Rattle.planning.specs.Expansion.{Entry, Outcome}
 use Rattle.planning.specs.Columns.{max_entries}
 use Rattle.planning.specs.Facts.{fact_plan}
-use Rattle.planning.specs.FactLaws.{fact_plannable}
-use Rattle.planning.specs.DemandLaws.{planned_fits}
+use Rattle.planning.proofs.FactLaws.{fact_plannable}
+use Rattle.planning.proofs.DemandLaws.{planned_fits}
 use Rattle.flat.specs.TreeBytes.{tree_size}
 use Rattle.expander.specs.declared.Until.TheVariants.{Covers}
 use Rattle.expander.specs.Expands.{Columns, columns, capacity_of, room, over, written, ended_by}

@@ -28,8 +28,8 @@ use Rattle.planning.specs.Domain.{Domain}
 use Rattle.planning.specs.Expansion.{Entry, Outcome, covered, entries, entry_in, root}
 use Rattle.planning.specs.Columns.{max_entries}
 use Rattle.planning.specs.Facts.{Actions, fact_plan, start_plan}
-use Rattle.planning.specs.FactLaws.{fact_plannable, entry_within, fact_replan}
-use Rattle.planning.specs.DemandLaws.{planned_fits}
+use Rattle.planning.proofs.FactLaws.{fact_plannable, entry_within, fact_replan}
+use Rattle.planning.proofs.DemandLaws.{planned_fits}
 use Rattle.tree.specs.Tree.{Tree}
 use Rattle.commands.specs.Commands.{command_at}
 use Rattle.tree.specs.ReadTree.{max_tree_bytes, whole_at, node_at, read_node, read_tree}

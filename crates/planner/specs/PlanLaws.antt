@@ -22,12 +22,12 @@ use Rattle.planning.specs.Domain.{Domain}
 use Rattle.planning.specs.Columns.{max_entries}
 use Rattle.planning.specs.Sequence.{Answer}
 use Rattle.planning.specs.Listing.{path}
-use Rattle.planning.specs.PathLaws.{path_same, path_short}
-use Rattle.planning.specs.Theory.{first_unique, first_covered}
+use Rattle.planning.proofs.PathLaws.{path_same, path_short}
+use Rattle.planning.proofs.Theory.{first_unique, first_covered}
 use Rattle.planning.specs.Expansion.{Entry, Outcome, covered, entries, entry_in, root, listing}
 use Rattle.planning.specs.Facts.{fact_plan}
-use Rattle.planning.specs.FactLaws.{fact_plannable, fact_start_first}
-use Rattle.planning.specs.DemandLaws.{planned_fits, planned_good, planned_action, planned_path}
+use Rattle.planning.proofs.FactLaws.{fact_plannable, fact_start_first}
+use Rattle.planning.proofs.DemandLaws.{planned_fits, planned_good, planned_action, planned_path}
 use Rattle.minutes.specs.Minutes.{nearest}
 use Rattle.expander.specs.declared.Until.{Until}
 use Rattle.expander.specs.declared.Until.TheVariants.{Covers}

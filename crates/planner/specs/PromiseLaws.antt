@@ -19,7 +19,7 @@ use Rattle.planning.specs.Listing.{path}
 use Rattle.planning.specs.Expansion.{Outcome, entries, listing}
 use Rattle.planning.specs.Demand.{FirstIn}
 use Rattle.planning.specs.Facts.{start_plan}
-use Rattle.planning.specs.FactLaws.{fact_start_first, fact_no_way}
+use Rattle.planning.proofs.FactLaws.{fact_start_first, fact_no_way}
 use Rattle.expander.specs.declared.Until.TheVariants.{Covers}
 use Rattle.expander.specs.Expands.{Columns, room}
 use Rattle.runs.specs.Runs.{tick_on}

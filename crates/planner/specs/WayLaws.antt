@@ -9,9 +9,9 @@ use Rattle.job.specs.Job.{no_job}
 use Rattle.job.specs.Validation.{max_seconds}
 use Rattle.numbers.specs.Numbers.{AreBytes}
 use Rattle.table.specs.Read.{read_table, jobs_of}
-use Rattle.table.specs.RoundTripLaws.{listed_in_time}
+use Rattle.table.proofs.RoundTripLaws.{listed_in_time}
 use Rattle.planning.specs.Listing.{path}
-use Rattle.planning.specs.PathLaws.{path_short, path_step}
+use Rattle.planning.proofs.PathLaws.{path_short, path_step}
 use Rattle.planner.specs.Plan.{seconds_of}
 use Rattle.planner.specs.Way.{linked, Linked, Traced, row_seconds, InTime}
 

@@ -24,10 +24,10 @@ use Rattle.table.specs.declared.Stage.{Stage}
 use Rattle.table.specs.declared.Stage.TheVariants.{First, Middle, Last}
 use Rattle.table.specs.Table.{Table, max_jobs}
 use Rattle.job.specs.Job.{job_with, job_by, job_at}
-use Rattle.job.specs.JobLaws.{size_most}
+use Rattle.job.proofs.JobLaws.{size_most}
 use Rattle.job.specs.Validation.{validated_job}
 use Rattle.table.specs.Read.{allowed, due_in, due, read_end, read_goal, read_jobs, read_table, facts_in_range}
-use Rattle.table.specs.ReadLaws.{facts_inside, end_inside, goal_inside, job_due}
+use Rattle.table.proofs.ReadLaws.{facts_inside, end_inside, goal_inside, job_due}
 use Rattle.planner.specs.PlanLaws.{plan_same}
 use Rattle.program_text.specs.Program.{capacity, tree_room, start_size, start_of, files_plan, program_text}
 use Rattle.program_text.specs.Files.{widest_in, widest, table_front, start_front, Holds}

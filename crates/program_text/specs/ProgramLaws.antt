@@ -20,8 +20,8 @@ use Rattle.conditions.specs.declared.Condition.{Condition}
 use Rattle.conditions.specs.Condition.{plain, condition_at}
 use Rattle.planning.specs.Expansion.{Entry, Outcome}
 use Rattle.planning.specs.Facts.{fact_plan}
-use Rattle.planning.specs.FactLaws.{fact_plannable}
-use Rattle.planning.specs.DemandLaws.{planned_fits}
+use Rattle.planning.proofs.FactLaws.{fact_plannable}
+use Rattle.planning.proofs.DemandLaws.{planned_fits}
 use Rattle.plan_text.specs.Text.{condition_text, entry_text, entries_text, plan_text}
 use Rattle.plan_text.specs.Writes.{Wrote, listed, with_absences}
 use Rattle.plan_text.specs.WriteLaws.{entries_same}

@@ -2,4 +2,3 @@
 pub mod Runs
 pub mod Joint
 -- computations
-pub mod Cases

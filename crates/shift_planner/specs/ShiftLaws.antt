@@ -13,9 +13,9 @@ use Rattle.planning.specs.Sequence.{Reaches}
 use Rattle.planning.specs.Columns.{max_entries}
 use Rattle.planning.specs.Expansion.{Entry, Outcome, exhausted, covered, full, entries}
 use Rattle.planning.specs.Demand.{CoveredBy}
-use Rattle.planning.specs.DemandLaws.{exhausted_nonempty}
+use Rattle.planning.proofs.DemandLaws.{exhausted_nonempty}
 use Rattle.planning.specs.Facts.{shift_plan}
-use Rattle.planning.specs.FactLaws.{fact_plannable, fact_covered_iff, fact_unending}
+use Rattle.planning.proofs.FactLaws.{fact_plannable, fact_covered_iff, fact_unending}
 use Rattle.expander.specs.declared.Until.TheVariants.{Never}
 use Rattle.expander.specs.Expands.{Columns, room, listed_by}
 use Rattle.builder.specs.declared.Size.{Size}

@@ -27,8 +27,8 @@ use Rattle.job.specs.Validation.{validated_job}
 use Rattle.table.specs.Table.{Table, max_facts, max_jobs, jobs_bytes, goal_bytes, table_bytes, offset_of, goal_offset}
 use Rattle.table.specs.Read.{facts_in_range}
 use Rattle.table.specs.Sound.{Storable, validated_from, validated_table}
-use Rattle.table.specs.RoundTripLaws.{read_written, validated_table_sound}
-use Rattle.table.specs.OffsetLaws.{jobs_snoc, last_offset, next_offset, offset_small}
+use Rattle.table.proofs.RoundTripLaws.{read_written, validated_table_sound}
+use Rattle.table.proofs.OffsetLaws.{jobs_snoc, last_offset, next_offset, offset_small}
 use Rattle.table_writer.specs.declared.FoundRow.{FoundRow}
 use Rattle.table_writer.specs.declared.FoundRow.TheVariants.{At, Nowhere}
 use Rattle.table_writer.specs.declared.TableWritten.{TableWritten}

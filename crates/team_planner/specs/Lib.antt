@@ -2,5 +2,3 @@
 pub mod Team
 pub mod Promise
 -- laws
-pub mod TeamLaws
-pub mod PromiseLaws

@@ -6,7 +6,7 @@ use mathlib.Core.Bool.{true}
 use borrow.Author.Rules.{rules}
 use Rattle.commands.specs.Commands.{PAIRED_ADDS_AT, PAIRED_JOB_SIZE}
 use Rattle.job.specs.Job.{job_with}
-use Rattle.job.specs.JobLaws.{from_pair, from_plain, from_byte}
+use Rattle.job.proofs.JobLaws.{from_pair, from_plain, from_byte}
 use Rattle.job.proofs.job_from.Goals as goal
 
 pub bounds-s-at : goal.bounds-s-at

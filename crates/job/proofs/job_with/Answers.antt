@@ -4,7 +4,7 @@ use native.Mathlib.Omega.{arith}
 use mathlib.Core.Path.{◌≡◌, refl}
 use borrow.Author.Rules.{rules}
 use Rattle.commands.specs.Commands.{EFFECTS_WIDTH}
-use Rattle.job.specs.JobLaws.{with_parts}
+use Rattle.job.proofs.JobLaws.{with_parts}
 use Rattle.job.proofs.job_with.Goals as goal
 
 pub returns : goal.returns

@@ -1,6 +1,6 @@
 -- `job::size_of` meets its contract, by the job's command.
 use mathlib.Core.Path.{sym, ap, ◌∙◌}
-use Rattle.job.specs.JobLaws.{size_by, job_size_is}
+use Rattle.job.proofs.JobLaws.{size_by, job_size_is}
 use Rattle.job.proofs.size_of.Goals as goal
 
 pub returns-then-job : goal.returns-then-job

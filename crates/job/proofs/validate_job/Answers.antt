@@ -3,7 +3,7 @@ use borrow.Author.Rules.{rules}
 use mathlib.Core.Path.{sym, ◌∙◌}
 use native.Mathlib.Omega.{arith}
 use borrow.Author.Tests.{not-true, not-false}
-use Rattle.job.specs.ValidationLaws.{validated_out, validated_overlap, validated_long, validated_contradicts, validated_sound}
+use Rattle.job.proofs.ValidationLaws.{validated_out, validated_overlap, validated_long, validated_contradicts, validated_sound}
 use Rattle.job.proofs.validate_job.Goals as goal
 
 pub returns-then-not-masks_in_range : goal.returns-then-not-masks_in_range

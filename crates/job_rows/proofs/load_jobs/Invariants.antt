@@ -7,7 +7,7 @@ use Prim.Native.Nat.{◌-◌, ◌≤◌}
 use lib.ListN.{length, length-set}
 use Rattle.table.specs.Table.{offset_of}
 use Rattle.table.specs.Read.{jobs_of, read_table}
-use Rattle.table.specs.OffsetLaws.{JobHere, first_offset, job_here}
+use Rattle.table.proofs.OffsetLaws.{JobHere, first_offset, job_here}
 use Rattle.job_rows.specs.Rows.{loaded}
 use Rattle.job_rows.specs.RowLaws.{load_turn}
 use Rattle.job_rows.proofs.load_jobs.Given as goal

@@ -3,7 +3,7 @@ use mathlib.Core.Path.{◌≡◌, sym, ap, ◌∙◌}
 use Prim.Native.Nat.{suc, ◌-◌}
 use native.Mathlib.Omega.{arith}
 use Rattle.licences.specs.Licences.{licences_of}
-use Rattle.licences.specs.LicenceLaws.{other_length, sound_next, all_sound, first_bad}
+use Rattle.licences.proofs.LicenceLaws.{other_length, sound_next, all_sound, first_bad}
 use Rattle.licences.proofs.check_licences.Goals as goal
 use Rattle.licences.proofs.check_licences.Lts as Lts
 use Rattle.licences.proofs.check_licences.Tie as Tie

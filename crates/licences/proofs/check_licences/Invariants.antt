@@ -1,6 +1,6 @@
 -- `licences::check_licences` meets its contract. The loop's invariant: the licences before those that are left are sound.
 use Prim.Native.Nat.{◌-◌, ◌≤◌}
-use Rattle.licences.specs.LicenceLaws.{SoundTo}
+use Rattle.licences.proofs.LicenceLaws.{SoundTo}
 use Rattle.licences.proofs.check_licences.Given as goal
 
 abbrev pub invariant-loop-left : goal.invariant-loop-left

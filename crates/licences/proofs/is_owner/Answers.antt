@@ -3,7 +3,7 @@ use mathlib.Core.Bool.{Bool}
 use lib.Dec.{eqb}
 use lib.ListN.{get_or}
 use Rattle.licences.specs.Licences.{FIRST, SECOND}
-use Rattle.licences.specs.LicenceLaws.{first_owns, second_owns}
+use Rattle.licences.proofs.LicenceLaws.{first_owns, second_owns}
 use Rattle.licences.proofs.is_owner.Goals as goal
 use Rattle.licences.proofs.is_owner.Lts as Lts
 use Rattle.licences.proofs.is_owner.Tie as Tie

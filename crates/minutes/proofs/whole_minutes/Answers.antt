@@ -5,7 +5,7 @@ use mir.Syntax.{w64}
 use mir.Val.{SFits}
 use mir.Facts.{to_z-of_z, to_z_pos}
 use Rattle.minutes.specs.Minutes.{minutes_of}
-use Rattle.minutes.specs.MinutesLaws.{nearest_le}
+use Rattle.minutes.proofs.MinutesLaws.{nearest_le}
 use Rattle.minutes.proofs.whole_minutes.Goals as goal
 
 pub overflow_cast-result : goal.overflow_cast-result

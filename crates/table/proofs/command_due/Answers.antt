@@ -2,7 +2,7 @@
 use borrow.Author.Rules.{rules}
 use mathlib.Core.Path.{sym, ap, ◌∙◌}
 use Rattle.table.specs.Read.{due_of}
-use Rattle.table.specs.ReadLaws.{due_missing, due_unknown, due_cut, due_cut_other, due_whole, due_other}
+use Rattle.table.proofs.ReadLaws.{due_missing, due_unknown, due_cut, due_cut_other, due_whole, due_other}
 use Rattle.table.proofs.command_due.Goals as goal
 
 pub returns-in-Missing : goal.returns-in-Missing

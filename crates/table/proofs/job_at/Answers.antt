@@ -6,7 +6,7 @@ use mathlib.Core.Path.{◌≡◌, sym, ap, ◌∙◌}
 use Prim.Native.Nat.{◌-◌, ◌≤◌}
 use Rattle.table.specs.Table.{offset_of}
 use Rattle.table.specs.Read.{read_table, jobs_of}
-use Rattle.table.specs.OffsetLaws.{JobHere, first_offset, job_here}
+use Rattle.table.proofs.OffsetLaws.{JobHere, first_offset, job_here}
 use Rattle.table.proofs.job_at.Goals as goal
 use Rattle.table.proofs.job_at.Lts as Lts
 use Rattle.table.proofs.job_at.Tie as Tie

@@ -6,7 +6,7 @@ use Rattle.refusal.specs.Checked.{accepted}
 use Rattle.refusal.specs.CheckedLaws.{accepted_same}
 use Rattle.table.specs.Table.{Table}
 use Rattle.table.specs.Read.{read_table, headed}
-use Rattle.table.specs.ReadLaws.{headed_sound, named_job_is, named_none}
+use Rattle.table.proofs.ReadLaws.{headed_sound, named_job_is, named_none}
 use Rattle.table.proofs.named_job.Goals as goal
 use Rattle.table.proofs.named_job.Lts as Lts
 use Rattle.table.proofs.named_job.Tie as Tie

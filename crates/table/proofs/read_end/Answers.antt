@@ -4,7 +4,7 @@ use native.Mathlib.Omega.{arith}
 use mathlib.Core.Path.{sym, ap, ◌∙◌}
 use Rattle.refusal.specs.Checked.{accepted}
 use Rattle.table.specs.Read.{due_of, headed, table_read_of}
-use Rattle.table.specs.ReadLaws.{end_inside, end_refused, end_whole, end_more}
+use Rattle.table.proofs.ReadLaws.{end_inside, end_refused, end_whole, end_more}
 use Rattle.table.proofs.read_end.Goals as goal
 
 pub returns-in-Refused : goal.returns-in-Refused

@@ -4,7 +4,7 @@ use borrow.Author.Rules.{rules}
 use mathlib.Core.Path.{sym, ap, ◌∙◌}
 use Rattle.masks.specs.Sets.{within}
 use Rattle.table.specs.Read.{headed, table_read_of}
-use Rattle.table.specs.ReadLaws.{goal_in, goal_out}
+use Rattle.table.proofs.ReadLaws.{goal_in, goal_out}
 use Rattle.numbers.specs.Numbers.{number_at}
 use Rattle.table.proofs.read_goal.Goals as goal
 

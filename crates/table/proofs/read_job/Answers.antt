@@ -2,7 +2,7 @@
 use borrow.Author.Rules.{rules}
 use mathlib.Core.Path.{sym, ap, ◌∙◌}
 use Rattle.table.specs.Read.{read_table, table_read_of}
-use Rattle.table.specs.ReadLaws.{headed_refused, headed_sound}
+use Rattle.table.proofs.ReadLaws.{headed_refused, headed_sound}
 use Rattle.table.proofs.read_job.Goals as goal
 
 pub named_job-requires : goal.named_job-requires

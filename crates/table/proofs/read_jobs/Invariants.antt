@@ -11,8 +11,8 @@ use Rattle.job.specs.declared.Job.{Job}
 use Rattle.job.specs.Validation.{validated_job, validated_of}
 use Rattle.table.specs.Table.{max_jobs, has_pair}
 use Rattle.table.specs.Read.{read_jobs, due_of, headed, table_read_of}
-use Rattle.table.specs.PairLaws.{pair_snoc}
-use Rattle.table.specs.ReadLaws.{goal_inside, job_whole, jobs_refused, jobs_goal, jobs_full, jobs_bad, jobs_more}
+use Rattle.table.proofs.PairLaws.{pair_snoc}
+use Rattle.table.proofs.ReadLaws.{goal_inside, job_whole, jobs_refused, jobs_goal, jobs_full, jobs_bad, jobs_more}
 use Rattle.table.proofs.read_jobs.Given as goal
 
 abbrev pub invariant-loop-x : goal.invariant-loop-x

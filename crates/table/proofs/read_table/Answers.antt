@@ -4,7 +4,7 @@ use borrow.Author.Rules.{rules}
 use mathlib.Core.Path.{sym, ap, ◌∙◌}
 use Rattle.commands.specs.Commands.{OPERANDS_AT}
 use Rattle.table.specs.Read.{due_of, headed, table_read_of}
-use Rattle.table.specs.ReadLaws.{facts_inside, table_refused, table_facts, table_no_facts}
+use Rattle.table.proofs.ReadLaws.{facts_inside, table_refused, table_facts, table_no_facts}
 use Rattle.table.proofs.read_table.Goals as goal
 
 pub bounds-s-1 : goal.bounds-s-1

@@ -21,14 +21,14 @@ use Rattle.numbers.specs.Numbers.{AreBytes, to_bytes, number_at}
 use Rattle.numbers.specs.NumberLaws.{from_to, to_length, read_drop, number_lt, byte_there, number_there}
 use Rattle.job.specs.declared.Job.{Job}
 use Rattle.job.specs.Job.{no_job, command_by, operands_by, job_bytes, job_size, job_at, StorableJob}
-use Rattle.job.specs.JobLaws.{by_size, by_width, job_size_is, job_length, read_job, written_job, job_fits}
+use Rattle.job.proofs.JobLaws.{by_size, by_width, job_size_is, job_length, read_job, written_job, job_fits}
 use Rattle.job.specs.Validation.{max_seconds, validated_job, SoundJob}
-use Rattle.job.specs.ValidationLaws.{validated_sound, validated_told}
+use Rattle.job.proofs.ValidationLaws.{validated_sound, validated_told}
 use Rattle.table.specs.declared.Stage.{Stage}
 use Rattle.table.specs.declared.Stage.TheVariants.{First, Middle, Last}
 use Rattle.table.specs.Table.{Table, max_jobs, jobs_bytes, goal_bytes, table_bytes}
 use Rattle.table.specs.Read.{allowed, due, facts_in_range, read_end, read_goal, read_jobs, read_table, jobs_of}
-use Rattle.table.specs.ReadLaws.{due_whole, due_told, facts_inside, goal_inside, end_inside, job_due, end_whole, jobs_goal, jobs_full, jobs_bad, jobs_more, table_facts, table_no_facts}
+use Rattle.table.proofs.ReadLaws.{due_whole, due_told, facts_inside, goal_inside, end_inside, job_due, end_whole, jobs_goal, jobs_full, jobs_bad, jobs_more, table_facts, table_no_facts}
 use Rattle.table.specs.Sound.{Sound, Storable, validated_from, validated_table}
 
 -- ---- lists

@@ -9,12 +9,12 @@ use Rattle.base.specs.Lists.{prefix}
 use Rattle.planning.specs.Domain.{Domain, Laws, Plannable}
 use Rattle.planning.specs.Sequence.{Answer, running, total, Reaches, Shortest, Run}
 use Rattle.planning.specs.Listing.{path, answer_at, Good, Fresh, Optimal}
-use Rattle.planning.specs.Logic.{choice_true, choice_false}
-use Rattle.planning.specs.Theory.{run_unique, run_named, run_transfer, first_met, irredundant_entry, by_parents, all_conditions, path_exact, complete, best}
+use Rattle.planning.proofs.Logic.{choice_true, choice_false}
+use Rattle.planning.proofs.Theory.{run_unique, run_named, run_transfer, first_met, irredundant_entry, by_parents, all_conditions, path_exact, complete, best}
 use Rattle.planning.specs.Expansion.{Entry, Outcome, exhausted, covered, full, entries, entry_in, expand, listing}
 use Rattle.planning.specs.Progress.{Progress, Sound}
-use Rattle.planning.specs.ProgressLaws.{exhausted_closed, entry_closed}
-use Rattle.planning.specs.ExpansionLaws.{expand_sound, expand_cut}
+use Rattle.planning.proofs.ProgressLaws.{exhausted_closed, entry_closed}
+use Rattle.planning.proofs.ExpansionLaws.{expand_sound, expand_cut}
 use Rattle.planning.specs.Demand.{FirstIn, CoveredBy, tick_later, tick_list, Fewest}
 
 module _ {State Condition : Type 0} (D : Domain State Condition ℕ) where

@@ -18,7 +18,7 @@ use Rattle.commands.specs.CommandLaws.{WholeAt, whole_told}
 use Rattle.numbers.specs.Numbers.{number_at}
 use Rattle.job.specs.declared.Job.{Job}
 use Rattle.job.specs.Job.{no_job, command_by, job_at, job_from}
-use Rattle.job.specs.JobLaws.{size_by, by_size, by_width, kind_size}
+use Rattle.job.proofs.JobLaws.{size_by, by_size, by_width, kind_size}
 use Rattle.job.specs.Validation.{validated_job}
 use Rattle.table.specs.declared.Header.{Header}
 use Rattle.table.specs.declared.Stage.{Stage}

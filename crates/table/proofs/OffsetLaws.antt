@@ -10,10 +10,10 @@ use Rattle.commands.specs.Commands.{FACTS_SIZE, PAIRED_JOB_SIZE}
 use Rattle.numbers.specs.Numbers.{AreBytes}
 use Rattle.job.specs.declared.Job.{Job}
 use Rattle.job.specs.Job.{no_job, job_bytes, job_size, job_at, job_from}
-use Rattle.job.specs.JobLaws.{job_size_is, size_most, size_least, job_length, read_job}
+use Rattle.job.proofs.JobLaws.{job_size_is, size_most, size_least, job_length, read_job}
 use Rattle.table.specs.Table.{Table, jobs_bytes, goal_bytes, table_bytes, offset_of, goal_offset}
 use Rattle.table.specs.Read.{read_table, jobs_of}
-use Rattle.table.specs.RoundTripLaws.{written_back, read_storable}
+use Rattle.table.proofs.RoundTripLaws.{written_back, read_storable}
 
 -- ---- offsets
 

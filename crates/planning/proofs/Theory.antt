@@ -12,8 +12,8 @@ use Rattle.base.specs.Bools.{by_cases}
 use Rattle.planning.specs.Domain.{Domain, Laws}
 use Rattle.planning.specs.Sequence.{Answer, success, running, total, Reaches, Run, named}
 use Rattle.planning.specs.Listing.{Listing, path, answer_at, Covered, CoveredWithin, First, Derived, Good, Fresh, Closed, Optimal}
-use Rattle.planning.specs.PathLaws.{path_step as step_along}
-use Rattle.planning.specs.Logic.{below_suc}
+use Rattle.planning.proofs.PathLaws.{path_step as step_along}
+use Rattle.planning.proofs.Logic.{below_suc}
 
 -- ---- runs, over any tick
 

@@ -15,7 +15,7 @@ use Rattle.conditions.specs.Condition.{plain}
 use Rattle.licences.specs.declared.Fitter.{Fitter}
 use Rattle.licences.specs.declared.Fitter.TheVariants.{First, Second}
 use Rattle.licences.specs.Licences.{FIRST, checked_licences, owner_of, owns, other_than}
-use Rattle.licences.specs.LicenceLaws.{licences_number, owner_owns, other_owns_not}
+use Rattle.licences.proofs.LicenceLaws.{licences_number, owner_owns, other_owns_not}
 use Rattle.table.specs.Table.{Table}
 use Rattle.table.specs.Read.{read_table}
 use Rattle.planning.specs.Domain.{Domain}
@@ -24,7 +24,7 @@ use Rattle.planning.specs.Listing.{path}
 use Rattle.planning.specs.Columns.{max_entries}
 use Rattle.planning.specs.Expansion.{Entry, Outcome, covered, entries, listing}
 use Rattle.planning.specs.Demand.{CoveredBy, FirstIn, Fewest}
-use Rattle.planning.specs.FactLaws.{fact_start_first, fact_no_way}
+use Rattle.planning.proofs.FactLaws.{fact_start_first, fact_no_way}
 use Rattle.tree.specs.declared.Status.{Status}
 use Rattle.tree.specs.declared.Status.TheVariants.{Success, Failure, Running, Unsettled, Waiting}
 use Rattle.tree.specs.Tick.{tick_tree}
@@ -45,7 +45,7 @@ use Rattle.builder.specs.WorksLaws.{separate, list_irredundant, goal_covered, li
 use Rattle.team_planner.specs.declared.TeamSize.{TeamSize}
 use Rattle.team_planner.specs.declared.TeamPlanned.{TeamPlanned}
 use Rattle.team_planner.specs.Team.{TeamPlan, no_trees, fitter_tree, team_size, two_trees, team_by, team_plan, team_for, plan_team, team_of, WritesTeam}
-use Rattle.team_planner.specs.TeamLaws.{not_both_fit}
+use Rattle.team_planner.proofs.TeamLaws.{not_both_fit}
 use Rattle.team_planner.specs.Promise.{told_to, joint_on, Shared, TeamWorks, NoTeamRoom, TeamKeeps, PlansTeam}
 
 -- ---- what both see of the team's answer, taken together

@@ -15,7 +15,7 @@ use Rattle.planning.specs.Domain.{Domain, Laws, Plannable}
 use Rattle.planning.specs.Sequence.{Answer, Reaches}
 use Rattle.planning.specs.Expansion.{Entry, exhausted, covered, entries, entry_in, expand}
 use Rattle.planning.specs.Demand.{FirstIn, CoveredBy, tick_list, Fewest}
-use Rattle.planning.specs.DemandLaws.{fewest, fewest_transfer, planned_condition, planned_satisfiable, irredundant, replan, unending, start_first, covers_all, no_way, covered_iff, distance}
+use Rattle.planning.proofs.DemandLaws.{fewest, fewest_transfer, planned_condition, planned_satisfiable, irredundant, replan, unending, start_first, covers_all, no_way, covered_iff, distance}
 use Rattle.planning.specs.Facts.{Actions, fact_domain, unit_domain, start_plan, shift_plan, Separate, Plain, WithinFacts}
 
 module _ (A : Actions) where

@@ -1,0 +1,10 @@
+pub mod Logic
+pub mod PathLaws
+pub mod Theory
+pub mod SearchLaws
+pub mod ProgressLaws
+pub mod ExpansionLaws
+pub mod ExpansionSteps
+pub mod DemandLaws
+pub mod FactLaws
+pub mod ColumnLaws

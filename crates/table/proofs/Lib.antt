@@ -1,0 +1,4 @@
+pub mod OffsetLaws
+pub mod PairLaws
+pub mod ReadLaws
+pub mod RoundTripLaws
