@@ -5,7 +5,7 @@ use Prim.Native.Nat.{◌+◌, ◌≤◌}
 use lib.ListN.{length, length-set}
 use Rattle.commands.specs.Commands.{JOB_SIZE, PAIRED_JOB_SIZE}
 use Rattle.job.specs.Job.{job_size}
-use Rattle.job.specs.JobLaws.{size_by, job_size_is, size_least}
+use Rattle.job.proofs.JobLaws.{size_by, job_size_is, size_least}
 use Rattle.table_writer.specs.WriteLaws.{plain_stored, paired_stored}
 use Rattle.table_writer.proofs.put_job.Goals as goal
 use Rattle.table_writer.proofs.put_job.Lts as Lts

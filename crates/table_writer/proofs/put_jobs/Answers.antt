@@ -9,7 +9,7 @@ use lib.Seq.{take_all}
 use Rattle.job.specs.declared.Job.{Job}
 use Rattle.job.specs.Job.{no_job, job_size}
 use Rattle.table.specs.Table.{jobs_bytes, offset_of}
-use Rattle.table.specs.OffsetLaws.{first_offset, offset_within}
+use Rattle.table.proofs.OffsetLaws.{first_offset, offset_within}
 use Rattle.table_writer.specs.Write.{JobColumns, columns_of, rows}
 use Rattle.table_writer.specs.WriteLaws.{rows_length, row_of, row_ends, row_written}
 use Rattle.table_writer.proofs.put_jobs.Goals as goal

@@ -10,7 +10,7 @@ use Rattle.job.specs.declared.Job.{Job}
 use Rattle.job.specs.Job.{no_job}
 use Rattle.job.specs.Validation.{validated_of}
 use Rattle.table.specs.Table.{Table, max_jobs, offset_of}
-use Rattle.table.specs.OffsetLaws.{first_offset, last_offset, offset_small}
+use Rattle.table.proofs.OffsetLaws.{first_offset, last_offset, offset_small}
 use Rattle.table_writer.specs.Write.{JobColumns, columns_of, rows, table_of, placed, table_validated_of}
 use Rattle.table_writer.specs.WriteLaws.{rows_length, row_of, row_ends, remaining, turn_full, turn_bad, turn_more, turn_goal_out, turn_goal_in, validated_no_facts, validated_facts, facts_small}
 use Rattle.table_writer.proofs.validate_table.Goals as goal
