@@ -1,6 +1,7 @@
 // The list of a sound table's goal and its tree, put into lent tables: what every plan is made of (document 01, "Expansion", stops 10 to 12;
 // document 02, W10).
 #![tactic(auto)]
+
 ghost use Rattle.std.specs.Prelude.{◌≡◌, ◌≤◌, length};
 ghost use Rattle.refusal.specs.Checked.{accepted};
 ghost use Rattle.table.specs.Table.{Table};

@@ -59,7 +59,7 @@ put_mask-absent_at-requires c =
 
 pub write_u64-requires : goal.write_u64-requires
 write_u64-requires c =
-    omega (arith, room c.before.before.before.before.before, c.put_mask-absent_at.auto.0, c.put_mask-absent_at.ensures.past, to_length MASK_WIDTH (start_of c.before.before.before.before.before).args.condition.present)
+    omega (arith, room c.before.before.before.before.before, c.put_mask-absent_at.auto.tree, c.put_mask-absent_at.ensures.past, to_length MASK_WIDTH (start_of c.before.before.before.before.before).args.condition.present)
 
 pub returns : goal.returns
 unfolding condition_bytes

@@ -76,7 +76,7 @@ loop-i-preserved c =
     let read = read_of c.before.before.before.before.before.before in
     let l = read.before.before in
     let a = (start_of l).args in (
-      omega (arith, c.put_later-at.auto.0, l.loop-i.invariant.0, read.loop-i-test.true),
+      omega (arith, c.put_later-at.auto.tree, l.loop-i.invariant.0, read.loop-i-test.true),
       later_put a.conditions.now a.absences.now a.actions.now (mine_of l) a.paired l.loop-i.invariant.0.0 read.condition_at-condition.ensures
           c.is_owner-mine.ensures l.loop-i.invariant.1 c.put_later-at.ensures,
     )

@@ -11,7 +11,7 @@ put_branch-at-requires c = let a = c.args in omega (arith, first_parts a.paired 
 pub put_condition-requires : goal.put_condition-requires
 put_condition-requires c =
     let a = c.args in
-    omega (arith, c.put_branch-at.auto.0, c.put_branch-at.ensures.past, first_parts a.paired a.n a.condition, c.requires)
+    omega (arith, c.put_branch-at.auto.tree, c.put_branch-at.ensures.past, first_parts a.paired a.n a.condition, c.requires)
 
 pub returns : goal.returns
 unfolding first_bytes

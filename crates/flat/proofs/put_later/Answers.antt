@@ -11,16 +11,16 @@ put_branch-condition_at-requires c = let a = c.args in omega (arith, entry_parts
 pub put_condition-leaf_at-requires : goal.put_condition-leaf_at-requires
 put_condition-leaf_at-requires c =
     let a = c.args in
-    omega (arith, c.put_branch-condition_at.auto.0, c.put_branch-condition_at.ensures.past, entry_parts a.paired a.condition a.mine a.action, c.requires)
+    omega (arith, c.put_branch-condition_at.auto.tree, c.put_branch-condition_at.ensures.past, entry_parts a.paired a.condition a.mine a.action, c.requires)
 
 pub put_leaf-requires : goal.put_leaf-requires
 put_leaf-requires c =
     let a = c.args in
     omega (
       arith,
-      c.put_branch-condition_at.auto.0,
+      c.put_branch-condition_at.auto.tree,
       c.put_branch-condition_at.ensures.past,
-      c.put_condition-leaf_at.auto.0,
+      c.put_condition-leaf_at.auto.tree,
       c.put_condition-leaf_at.ensures.past,
       entry_parts a.paired a.condition a.mine a.action,
       c.requires,

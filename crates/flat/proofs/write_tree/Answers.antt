@@ -58,7 +58,7 @@ put_first-first-requires c = omega (arith, (start_of c.before.before).requires, 
 
 pub put_entries-end-requires : goal.put_entries-end-requires
 put_entries-end-requires c =
-    omega (arith, (start_of (read_of c.before.before.before.before)).requires, c.put_first-first.auto.0, c.put_first-first.ensures.past, parts (read_of c.before.before.before.before))
+    omega (arith, (start_of (read_of c.before.before.before.before)).requires, c.put_first-first.auto.tree, c.put_first-first.ensures.past, parts (read_of c.before.before.before.before))
 
 pub put_end-requires : goal.put_end-requires
 put_end-requires c =
@@ -66,9 +66,9 @@ put_end-requires c =
     omega (
       arith,
       (start_of (read_of first)).requires,
-      first.put_first-first.kept.0,
+      first.put_first-first.auto.tree,
       first.put_first-first.ensures.past,
-      c.put_entries-end.auto.1.1.1.1.1.1.1.0,
+      c.put_entries-end.auto.tree,
       c.put_entries-end.ensures.past,
       parts (read_of first),
     )
