@@ -9,8 +9,8 @@ trap 'rm -f "$report"' EXIT
 # rt reports an edit that the prover accepts as one that is not refused.
 ./try_edits.sh right >"$report" 2>&1 || true
 accepted='NOT REFUSED: the crate is still proved with this edit'
-sed -n "s/^rt: must-fail \(.*\): $accepted/ok: \1/p" "$report"
-sed -n -e "/$accepted/d" -e 's/refused, as it must be/refused/' -e 's/^rt: must-fail /FAILED: /p' -e '/NOT PROVED/p' "$report"
+sed -n "s/^rt: must-fail \(.*\): $accepted.*/ok: \1/p" "$report"
+sed -n -e "/$accepted/d" -e 's/refused, as it must be/refused/' -e 's/^rt: must-fail /FAILED: /p' -e '/not proved/p' "$report"
 passed=$(grep -c "$accepted" "$report" || true)
 failed=$(($(find right -name '*.edit' | wc -l) - passed))
 echo "$passed passed, $failed failed"

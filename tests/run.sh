@@ -1,6 +1,7 @@
 #!/bin/sh
 # The tests beside the proofs: the proved library and the program bayplan against an engine in Rust, the C header, and the examples. Run
-# it from anywhere, after `rt ci`. It needs cargo (no network) and a C compiler with binutils, and for some of it a C++ compiler and python3.
+# it from anywhere, best after `rt ci`, whose libraries it builds on. It needs the Rattle kit, cargo (no network) and a C compiler with binutils,
+# and for some of it a C++ compiler and python3.
 # BAY_ARCHIVE names a library built elsewhere; BAY_SEED gives the random cases another seed.
 set -u
 cd "$(dirname "$0")/.." || exit 1
@@ -94,8 +95,12 @@ status=$?
 cat "$work/compare"
 counted compare "$work/compare" $status
 
-bayplan=$root/target/bin/bayplan
+bayplan=$root/crates/bayplan/out/bayplan
+# It is built anew where something has changed since, and run once where it has no files to read.
+rm -f "$bayplan"
+(cd crates/bayplan && rt run) >"$work/built" 2>&1 </dev/null
 if [ -x "$bayplan" ]; then
+    ok "crates/bayplan is built"
     "$programs/bayplan_compare" "$bayplan" "$work/folders" >"$work/bayplan" 2>&1
     status=$?
     cat "$work/bayplan"
@@ -105,7 +110,8 @@ if [ -x "$bayplan" ]; then
     cat "$work/digests"
     counted digests "$work/digests" $status
 else
-    bad "target/bin/bayplan is not there"
+    tail -5 "$work/built"
+    bad "crates/bayplan is built"
 fi
 
 # ---- the examples

@@ -13,6 +13,7 @@ MOVED = {
     "licences": ["LicenceLaws"],
     "minutes": ["MinutesLaws"],
     "planning": ["Logic", "PathLaws", "Theory", "SearchLaws", "ProgressLaws", "ExpansionLaws", "ExpansionSteps", "DemandLaws", "FactLaws", "ColumnLaws"],
+    "marked_cases": ["Computed", "PairsComputed"],
     "runs": ["Cases"],
     "table": ["OffsetLaws", "PairLaws", "ReadLaws", "RoundTripLaws"],
     "team_planner": ["TeamLaws", "PromiseLaws"],

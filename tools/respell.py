@@ -146,7 +146,7 @@ def turn(text, known, of_function):
             field = m.start() > 0 and text[m.start() - 1] == "."
             path = re.search(r"([^\s(){};,@\"]+)\.$", text[max(0, m.start() - 120) : m.start()]) if field else None
             if use:
-                turned = use[2] and t in known
+                turned = use[2] and (t in known or text[: m.start()].endswith(" as "))
             elif path and path.group(1).split(".")[0] in aliases | {"tie", "goal"}:
                 turned = False
             elif field:

@@ -43,9 +43,3 @@ is_true false t = absurd t
 pub is_false : (b : Bool) → T (not b) → b ≡ false
 is_false true t = absurd t
 is_false false t = refl
-
-infix 1 if◌then◌else◌
--- a choice by a test; a branch that recurs is bound by a `let`, so that it waits
-abbrev pub if◌then◌else◌ {ℓ} : {A : Type ℓ} → Bool → A → A → A
-if true then a else b = a
-if false then a else b = b

@@ -2,8 +2,7 @@
 -- with 8 and its index as place. After that, a list of none or over 4,096 is 13 with place 0, and an entry with a condition bit at or above F, or
 -- after entry 0 with a job not in the table, is 15 with the entry as place."
 -- Definitions only.
-use Rattle.std.specs.Prelude.{ℕ, Bool, ◌&&◌, ◌||◌, List, eqb, leb, ltb, length}
-use Rattle.base.specs.Bools.{if◌then◌else◌}
+use Rattle.std.specs.Prelude.{ℕ, Bool, ◌&&◌, ◌||◌, List, eqb, leb, ltb, length, if◌then◌else◌}
 use Rattle.refusal.specs.Checked.{Checked, accepted, refused, refused_by, checked_each}
 use Rattle.reading.specs.declared.Reading.{Reading}
 use Rattle.reading.specs.Reading.{checked_at}

@@ -1,7 +1,6 @@
 -- The tick of a row of vehicles on a lent list, from bytes, and what it leaves in the lent rows: document 02, W4, "A yard of vehicles in one walk".
 -- Definitions only.
-use Rattle.std.specs.Prelude.{ℕ, min, ◌<◌, ◌≡◌, Bool, true, false, List, [], map, length, get_or}
-use Rattle.base.specs.Bools.{if◌then◌else◌}
+use Rattle.std.specs.Prelude.{ℕ, min, ◌<◌, ◌≡◌, Bool, true, false, List, [], map, length, get_or, if◌then◌else◌}
 use Rattle.refusal.specs.Checked.{Checked, accepted, refused, refused_by, and_then, checked_each}
 use Rattle.reading.specs.declared.Reading.{Reading}
 use Rattle.conditions.specs.declared.Condition.{Condition}

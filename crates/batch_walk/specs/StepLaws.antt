@@ -4,14 +4,14 @@ use Prim.Native.Nat.{ℕ, zero, suc, ◌+◌, ◌≤◌, ◌<◌}
 use Rattle.std.proofs.Math.Decide.{dec_le}
 use Rattle.std.proofs.Math.Numerals.{add-one}
 use Rattle.std.proofs.Common.{arith, ◌∙◌, eq-eqb, ne_eqb}
-use Rattle.std.specs.Prelude.{◌≡◌, Bool, not, ◌&&◌, List, eqb, length, get_or}
+use Rattle.std.specs.Prelude.{◌≡◌, Bool, not, ◌&&◌, List, eqb, length, get_or, if◌then◌else◌}
 use Rattle.std.proofs.Math.Path.{refl, sym, ap, subst}
 use Rattle.std.proofs.Math.Bool.{true, false}
 use Rattle.std.proofs.lemmas.Bool.{false≢true}
 use Rattle.std.proofs.Math.Dec.{eqb→eq}
 use Rattle.std.proofs.lemmas.List.{set-get_or}
 use Rattle.base.specs.Lists.{sum, overlay_front, overlay_past, overlay_next, overlay_again, overlay_same, overlay_stands, sum_split, sum_stands}
-use Rattle.base.specs.Bools.{if◌then◌else◌, holds, and_left}
+use Rattle.base.specs.Bools.{holds, and_left}
 use Rattle.masks.specs.Sets.{subset, union}
 use Rattle.reading.specs.declared.Reading.{Reading}
 use Rattle.conditions.specs.declared.Evaluation.{Evaluation}

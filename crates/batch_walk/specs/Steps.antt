@@ -1,7 +1,6 @@
 -- The walk, entry by entry: what one entry changes in the answers so far, of which Failure says that the vehicle goes on.
 -- Definitions only.
-use Rattle.std.specs.Prelude.{ℕ, zero, suc, ◌≤◌, ◌<◌, ◌≡◌, Bool, true, false, not, ◌&&◌, List, eqb, get_or, set}
-use Rattle.base.specs.Bools.{if◌then◌else◌}
+use Rattle.std.specs.Prelude.{ℕ, zero, suc, ◌≤◌, ◌<◌, ◌≡◌, Bool, true, false, not, ◌&&◌, List, eqb, get_or, set, if◌then◌else◌}
 use Rattle.base.specs.Lists.{overlay, sum}
 use Rattle.masks.specs.Sets.{subset, union}
 use Rattle.reading.specs.declared.Reading.{Reading}

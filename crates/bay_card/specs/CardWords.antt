@@ -1,7 +1,6 @@
 -- A card in its lent parts, and what the calls over it give in the words of include/bay.h.
 -- Definitions only.
-use Rattle.std.specs.Prelude.{◌≡◌, List, [], ◌∷◌, ℕ, ltb}
-use Rattle.base.specs.Bools.{if◌then◌else◌}
+use Rattle.std.specs.Prelude.{◌≡◌, List, [], ◌∷◌, ℕ, ltb, if◌then◌else◌}
 use Rattle.refusal.specs.Checked.{Checked, refused}
 use Rattle.card.specs.declared.Card.{Card}
 use Rattle.card.specs.declared.CardAnswer.{CardAnswer}

@@ -1,6 +1,7 @@
 // The C interface to both plans: the functions of include/bay.h that build a list and its tree, each over the proved function of the same
 // meaning. Every function takes every input.
 #![tactic(auto)]
+
 ghost use Rattle.std.specs.Prelude.{◌≡◌, length};
 ghost use Rattle.expander.specs.Expands.{columns, room};
 ghost use Rattle.builder.specs.Plan.{built_of};

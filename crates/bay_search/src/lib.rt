@@ -1,6 +1,7 @@
 // The C interface to the search among listed conditions: bay_newest_weaker of include/bay.h, over the proved function of the same meaning. It
 // takes every input.
 #![tactic(auto)]
+
 ghost use Rattle.std.specs.Prelude.{◌≡◌};
 ghost use Rattle.refusal.specs.Checked.{accepted};
 ghost use Rattle.bay_words.specs.Words.{words};

@@ -1,5 +1,6 @@
 // The C interface to the plan for two fitters: bay_plan_team of include/bay.h, over the proved function of the same meaning. It takes every input.
 #![tactic(auto)]
+
 ghost use Rattle.std.specs.Prelude.{◌≡◌};
 ghost use Rattle.expander.specs.Expands.{columns};
 ghost use Rattle.team_planner.specs.Team.{of_each, team_of};

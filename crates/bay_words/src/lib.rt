@@ -1,5 +1,6 @@
 // The words of include/bay.h that several answers share: a refusal's number, and yes or no.
 #![tactic(auto)]
+
 ghost use Rattle.std.specs.Prelude.{◌≡◌};
 ghost use Rattle.refusal.specs.Numbers.{number_of};
 ghost use Rattle.bay_words.specs.Words.{flag_word};

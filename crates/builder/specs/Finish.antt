@@ -1,7 +1,6 @@
 -- What every plan makes of a list: an answer, and trees where there is room for them: document 01, "Expansion", stops 10 to 12.
 -- Definitions only.
-use Rattle.std.specs.Prelude.{ℕ, ◌≡◌, Bool, false, List, [], length}
-use Rattle.base.specs.Bools.{if◌then◌else◌}
+use Rattle.std.specs.Prelude.{ℕ, ◌≡◌, Bool, false, List, [], length, if◌then◌else◌}
 use Rattle.refusal.specs.Checked.{Checked, accepted, refused}
 use Rattle.conditions.specs.declared.Condition.{Condition}
 use Rattle.table.specs.Table.{Table}

@@ -1,8 +1,7 @@
 -- Plans, of whatever kind: the list of a table's goal and its tree, and what of them stands in every lent slice: document 01, "Expansion", stops 10
 -- to 12; document 02, W10.
 -- Definitions only.
-use Rattle.std.specs.Prelude.{ℕ, ◌≤◌, ◌≡◌, Bool, List, [], ◌++◌, leb, length, get_or, take, drop}
-use Rattle.base.specs.Bools.{if◌then◌else◌}
+use Rattle.std.specs.Prelude.{ℕ, ◌≤◌, ◌≡◌, Bool, List, [], ◌++◌, leb, length, get_or, take, drop, if◌then◌else◌}
 use Rattle.refusal.specs.Checked.{Checked, accepted, refused, refused_by, and_then}
 use Rattle.conditions.specs.declared.Condition.{Condition}
 use Rattle.conditions.specs.Condition.{plain}

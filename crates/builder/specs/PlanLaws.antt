@@ -1,11 +1,10 @@
 -- What the parts of the code leave comes to the plan that the definition gives.
 -- Assumes nothing.
-use Rattle.std.specs.Prelude.{ℕ, ◌+◌, ◌≤◌, ◌<◌, ◌≡◌, Bool, true, false, List, [], ◌++◌, leb, length, take, drop}
+use Rattle.std.specs.Prelude.{ℕ, ◌+◌, ◌≤◌, ◌<◌, ◌≡◌, Bool, true, false, List, [], ◌++◌, leb, length, take, drop, if◌then◌else◌}
 use Rattle.std.proofs.Common.{arith, sym, ap, ◌∙◌, subst, append-nil, drop_of_length-le, le-leb}
 use Rattle.std.proofs.Math.Path.{refl}
 use Rattle.std.proofs.Math.Seq.{take-length}
 use Rattle.std.proofs.lemmas.Bool.{lt-leb}
-use Rattle.base.specs.Bools.{if◌then◌else◌}
 use Rattle.base.specs.Lists.{length_prefix}
 use Rattle.refusal.specs.Checked.{Checked, accepted, refused, and_then}
 use Rattle.refusal.specs.CheckedLaws.{not_both, accepted_same, accepted_then}

@@ -1,8 +1,7 @@
 -- The job card: document 01, "Job card", with stops 17 and 18 of "Stops, in checking order", whose place is 0. What its calls check first stands
 -- in `card_calls`.
 -- Definitions only.
-use Rattle.std.specs.Prelude.{ℕ, ◌+◌, ◌*◌, ◌≤◌, ◌≡◌, Bool, ◌||◌, eqb, ltb, ℤ, pos, ◌-ℤ◌}
-use Rattle.base.specs.Bools.{if◌then◌else◌}
+use Rattle.std.specs.Prelude.{ℕ, ◌+◌, ◌*◌, ◌≤◌, ◌≡◌, Bool, ◌||◌, eqb, ltb, ℤ, pos, ◌-ℤ◌, if◌then◌else◌}
 use Rattle.refusal.specs.declared.Refusal.{Refusal}
 use Rattle.refusal.specs.Checked.{Checked, accepted, refused, refused_by, and_then}
 use Rattle.reading.specs.declared.Reading.{Reading}

@@ -1,11 +1,11 @@
 -- What reports make of a card: its masks stay sound and its sums within 18's bound, and on a fully read card a report is a finished job.
 -- Assumes nothing.
-use Rattle.std.specs.Prelude.{ℕ, ◌*◌, ◌^◌, ◌<◌, refl, Bool, List, T, ltb, length, get_or}
+use Rattle.std.specs.Prelude.{ℕ, ◌*◌, ◌^◌, ◌<◌, refl, Bool, List, T, ltb, length, get_or, if◌then◌else◌}
 use native.Mathlib.Omega.{arith}
 use Rattle.std.proofs.Math.Path.{◌≡◌}
 use Rattle.std.proofs.Common.{sym, ap, ◌∙◌, true≢false, ltb-true}
 use Rattle.std.proofs.Math.Bool.{true, false}
-use Rattle.base.specs.Bools.{if◌then◌else◌, holds}
+use Rattle.base.specs.Bools.{holds}
 use Rattle.masks.specs.Sets.{intersects}
 use Rattle.refusal.specs.Checked.{Checked, accepted, refused, and_then}
 use Rattle.refusal.specs.CheckedLaws.{not_both, accepted_same, accepted_then, accepted_if, accepted_unless}

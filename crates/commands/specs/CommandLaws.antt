@@ -1,13 +1,12 @@
 -- Laws of the command table's look-up.
 -- Assumes nothing.
-use Rattle.std.specs.Prelude.{ℕ, ◌+◌, ◌<◌, ◌≤◌, Bool, List, ltb}
+use Rattle.std.specs.Prelude.{ℕ, ◌+◌, ◌<◌, ◌≤◌, Bool, List, ltb, if◌then◌else◌}
 use Rattle.std.proofs.Common.{arith, ◌∙◌, le-ltb, lt-ltb, le-leb, ltb-true, leb-true}
 use Rattle.std.proofs.Math.Path.{◌≡◌, refl, sym}
 use Rattle.std.proofs.Math.Bool.{true, false}
 use Rattle.std.proofs.Math.Dec.{leb}
 use Rattle.std.proofs.Math.ListN.{length, get_or}
 use Rattle.std.proofs.lemmas.Bool.{lt-leb}
-use Rattle.base.specs.Bools.{if◌then◌else◌}
 use Rattle.commands.specs.declared.Width.{Width}
 use Rattle.commands.specs.declared.Width.TheVariants.{Bytes, NoCommand}
 use Rattle.commands.specs.declared.Found.TheVariants.{Missing, Unknown, Cut, Whole}

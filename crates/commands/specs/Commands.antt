@@ -1,7 +1,6 @@
 -- Document 01, "Commands": "Each command is one byte with operands of fixed width. One table gives the operand width of every command."
 -- Definitions only.
-use Rattle.std.specs.Prelude.{ℕ, ◌+◌, List, [], ◌∷◌, eqb, ltb, leb, length, get_or}
-use Rattle.base.specs.Bools.{if◌then◌else◌}
+use Rattle.std.specs.Prelude.{ℕ, ◌+◌, List, [], ◌∷◌, eqb, ltb, leb, length, get_or, if◌then◌else◌}
 use Rattle.commands.specs.declared.Command.{Command}
 use Rattle.commands.specs.declared.Width.{Width}
 use Rattle.commands.specs.declared.Width.TheVariants.{Bytes, NoCommand}

@@ -1,8 +1,7 @@
 -- Conditions and actions on a reading, some of whose facts may be unread: document 01, "Ticking" and "Job card"; document 02, W10.
 -- Definitions only.
-use Rattle.std.specs.Prelude.{Bool, not, ◌&&◌, T}
+use Rattle.std.specs.Prelude.{Bool, not, ◌&&◌, T, if◌then◌else◌}
 use Rattle.std.specs.Int.Bits.{bit_and}
-use Rattle.base.specs.Bools.{if◌then◌else◌}
 use Rattle.masks.specs.Sets.{subset, intersects, union, difference}
 use Rattle.reading.specs.declared.Reading.{Reading}
 use Rattle.conditions.specs.declared.Action.{Action}

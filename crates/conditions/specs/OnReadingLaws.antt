@@ -2,12 +2,12 @@
 -- Assumes nothing.
 use Prim.Native.Nat.{ℕ, zero, suc, ◌+◌, ◌-◌, ◌≤◌, max}
 use Rattle.std.proofs.Common.{arith, ◌∙◌, T_not}
-use Rattle.std.specs.Prelude.{◌≡◌, Bool, true, false, not, ◌&&◌, ◌||◌, T}
+use Rattle.std.specs.Prelude.{◌≡◌, Bool, true, false, not, ◌&&◌, ◌||◌, T, if◌then◌else◌}
 use Rattle.std.proofs.Math.Path.{refl}
 use borrow.Author.Tests.{eq-eqb, ne_eqb}
 use Rattle.std.specs.Int.Bits.{bit_and}
 use Rattle.std.proofs.Math.Dec.{not_T}
-use Rattle.base.specs.Bools.{if◌then◌else◌, by_cases, and_intro, and_left, and_right, holds, fails, is_true, is_false}
+use Rattle.base.specs.Bools.{by_cases, and_intro, and_left, and_right, holds, fails, is_true, is_false}
 use Rattle.masks.specs.Sets.{bit, subset, intersects, union, difference, within}
 use Rattle.masks.specs.Bits.{bit_le, bit_empty, bit_union, bit_difference, same_bits, subset_bits, bits_subset, disjoint_bits, bits_disjoint}
 use Rattle.masks.specs.Laws.{subset_refl, subset_trans, subset_union_left, disjoint_subset, within_difference}

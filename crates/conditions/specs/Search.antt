@@ -1,8 +1,7 @@
 -- The search for a listed part of a condition: document 02, W6.
 -- Definitions only.
-use Rattle.std.specs.Prelude.{◌≡◌, List, ◌↔◌, true, ℕ, zero, suc, ◌≤◌, ◌<◌, get_or, T}
+use Rattle.std.specs.Prelude.{◌≡◌, List, ◌↔◌, true, ℕ, zero, suc, ◌≤◌, ◌<◌, get_or, T, if◌then◌else◌}
 use Rattle.masks.specs.Sets.{intersects}
-use Rattle.base.specs.Bools.{if◌then◌else◌}
 use Rattle.conditions.specs.declared.Condition.{Condition}
 use Rattle.conditions.specs.declared.Found.{Found}
 use Rattle.conditions.specs.declared.Found.TheVariants.{At, Nowhere}

@@ -131,6 +131,7 @@ fn past_others(conditions: &[u64], n: usize, mask: u64) -> usize
 
 // The newest of the first n listed conditions that is a part of `c` (document 02, W6). The second column is looked at only where the first mask
 // fits.
+#[tactic(auto, using(crate::proofs::NoneLeft::none_left))]
 pub fn newest_weaker(conditions: &[u64], absences: &[u64], n: usize, c: Condition) -> Found
     requires { n ≤ length conditions.now }
     ensures { Searches conditions.now absences.now n c result }

@@ -1,8 +1,7 @@
 -- Document 02, W13, on document 01's trailer and on the trailer with one fact less: the distances of their 32 and 16 states, by the held mask; those of a
 -- small table in which a job's deletes decide; and the answers, with the refusals in their order.
 -- Definitions only; DistanceComputed.antt shows that these are the rows and the answers that the contract of `measure` gives.
-use Rattle.std.specs.Prelude.{ℕ, ◌≡◌, List, [], ◌∷◌, ◌++◌, take}
-use Rattle.base.specs.Bools.{if◌then◌else◌}
+use Rattle.std.specs.Prelude.{ℕ, ◌≡◌, List, [], ◌∷◌, ◌++◌, take, if◌then◌else◌}
 use Rattle.refusal.specs.Checked.{accepted, refused}
 use Rattle.conditions.specs.declared.Condition.{Condition}
 use Rattle.conditions.specs.Condition.{satisfied}

@@ -1,9 +1,9 @@
 -- Where the actions lead from a state, and the least of it.
 -- Assumes nothing.
-use Rattle.std.specs.Prelude.{◌≡◌, Bool, true, false, List, ℕ, ◌+◌, ◌≤◌, ◌<◌, T, ltb, length}
+use Rattle.std.specs.Prelude.{◌≡◌, Bool, true, false, List, ℕ, ◌+◌, ◌≤◌, ◌<◌, T, ltb, length, if◌then◌else◌}
 use Rattle.std.proofs.Common.{sym, ◌∙◌, arith, lt-ltb, ltb→lt}
 use Rattle.std.proofs.Math.Decide.{dec_le}
-use Rattle.base.specs.Bools.{if◌then◌else◌, and_intro, and_left, and_right, holds, is_true}
+use Rattle.base.specs.Bools.{and_intro, and_left, and_right, holds, is_true}
 use Rattle.reading.specs.Reading.{state}
 use Rattle.conditions.specs.declared.Condition.{Condition}
 use Rattle.conditions.specs.Condition.{satisfied, needed, applied}

@@ -1,8 +1,7 @@
 -- Where the actions lead from a state, by a row with a label for each state, and the row that the sweeps begin with: document 02, W13. A label is a
 -- distance as far as it was found yet.
 -- Definitions only.
-use Rattle.std.specs.Prelude.{◌≡◌, List, ℕ, ◌≤◌, ◌<◌, T, length, get_or}
-use Rattle.base.specs.Bools.{if◌then◌else◌}
+use Rattle.std.specs.Prelude.{◌≡◌, List, ℕ, ◌≤◌, ◌<◌, T, length, get_or, if◌then◌else◌}
 use Rattle.conditions.specs.declared.Condition.{Condition}
 use Rattle.conditions.specs.Condition.{satisfied, needed, applied, action_at}
 use Rattle.planning.specs.Domain.{Domain}

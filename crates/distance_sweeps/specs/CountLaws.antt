@@ -1,9 +1,8 @@
 -- How many states have no label, before and after one of them gets a label.
 -- Assumes nothing.
-use Rattle.std.specs.Prelude.{◌≡◌, Bool, true, false, List, ℕ, zero, suc, ◌+◌, ◌≤◌, ◌<◌, eqb, length, set}
+use Rattle.std.specs.Prelude.{◌≡◌, Bool, true, false, List, ℕ, zero, suc, ◌+◌, ◌≤◌, ◌<◌, eqb, length, set, if◌then◌else◌}
 use Rattle.std.proofs.Common.{sym, ap, ◌∙◌, arith, eq-eqb, ne_eqb, get_or-set_same, get_or-set_other}
 use Rattle.std.proofs.Math.Decide.{dec_le}
-use Rattle.base.specs.Bools.{if◌then◌else◌}
 use Rattle.base.specs.Lists.{sum_most, sum_change}
 use Rattle.distance_steps.specs.Distance.{no_distance}
 use Rattle.distance_steps.specs.Steps.{label_of}

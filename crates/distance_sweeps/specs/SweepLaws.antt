@@ -3,11 +3,11 @@
 -- labels then fall by at most 1 with each action, so that none is shorter than its first state's label. A sweep that changes a label gives a state more
 -- than the sweeps done, and labels are less than the states that have one (`small`): so there are no more sweeps than states.
 -- Assumes nothing.
-use Rattle.std.specs.Prelude.{◌≡◌, refl, Bool, true, false, List, [], ◌∷◌, ◌⊎◌, ℕ, suc, ◌+◌, ◌≤◌, ◌<◌, T, length, set}
+use Rattle.std.specs.Prelude.{◌≡◌, refl, Bool, true, false, List, [], ◌∷◌, ◌⊎◌, ℕ, suc, ◌+◌, ◌≤◌, ◌<◌, T, length, set, if◌then◌else◌}
 use Rattle.std.proofs.Common.{◌∙◌, true≢false, ⊎_elim, arith, length-set, get_or-set_same, get_or-set_other}
 use Rattle.std.proofs.lemmas.Bool.{false≢true}
 use Rattle.std.proofs.Math.Decide.{dec_le, ℕ_discrete}
-use Rattle.base.specs.Bools.{if◌then◌else◌, is_true}
+use Rattle.base.specs.Bools.{is_true}
 use Rattle.conditions.specs.declared.Condition.{Condition}
 use Rattle.conditions.specs.Condition.{satisfied}
 use Rattle.planning.specs.Sequence.{Reaches}

@@ -1,8 +1,7 @@
 -- Sweeps over a row of labels, one for each state, until they are the states' distances: what each function of them leaves in the row. A label is the
 -- length of some sequence that reaches the goal from the state, or 65,535; a sweep lowers labels by where one action leads, forward.
 -- Definitions only.
-use Rattle.std.specs.Prelude.{◌≡◌, Bool, true, false, List, ℕ, suc, ◌+◌, ◌≤◌, ◌<◌, T, eqb, length}
-use Rattle.base.specs.Bools.{if◌then◌else◌}
+use Rattle.std.specs.Prelude.{◌≡◌, Bool, true, false, List, ℕ, suc, ◌+◌, ◌≤◌, ◌<◌, T, eqb, length, if◌then◌else◌}
 use Rattle.base.specs.Lists.{sum}
 use Rattle.conditions.specs.declared.Condition.{Condition}
 use Rattle.planning.specs.Sequence.{Reaches}

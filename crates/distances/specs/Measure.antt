@@ -1,7 +1,6 @@
 -- The distances of all states of a table, and what stands in the lent row: document 02, W13.
 -- Definitions only; MeasureLaws.antt and AgreeLaws.antt have the laws.
-use Rattle.std.specs.Prelude.{ℕ, ◌<◌, ◌^◌, ◌≡◌, Bool, List, ◌↔◌, leb, eqb, length, get_or}
-use Rattle.base.specs.Bools.{if◌then◌else◌}
+use Rattle.std.specs.Prelude.{ℕ, ◌<◌, ◌^◌, ◌≡◌, Bool, List, ◌↔◌, leb, eqb, length, get_or, if◌then◌else◌}
 use Rattle.refusal.specs.Checked.{Checked, accepted, refused, refused_by, and_then}
 use Rattle.conditions.specs.declared.Condition.{Condition}
 use Rattle.table.specs.Table.{Table}

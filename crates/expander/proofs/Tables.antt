@@ -1,6 +1,7 @@
 -- The lent list tables while entries are stored in them: past the list they stay as they were lent, so an answer whose entries they hold
 -- leaves what `Expands` says.
 -- Assumes nothing.
+use Rattle.std.specs.Prelude.{if◌then◌else◌}
 use mathlib.Core.Path.{◌≡◌, refl, sym, ap, ◌∙◌}
 use mathlib.Core.Bool.{Bool, true, false, not}
 use mathlib.Core.List.{List, [], ◌∷◌, ◌++◌, map}
@@ -11,7 +12,7 @@ use borrow.Author.Count.{below_more}
 use lib.Dec.{T}
 use lib.ListN.{length, get_or, set, take, drop, length-set, take-append-drop}
 use lib.Seq.{take-suc, get_or-set_same, get_or-set_other, drop-drop, drop-set-lt}
-use Rattle.base.specs.Bools.{if◌then◌else◌, by_cases}
+use Rattle.base.specs.Bools.{by_cases}
 use Rattle.refusal.specs.Checked.{accepted, and_then}
 use Rattle.conditions.specs.declared.Condition.{Condition}
 use Rattle.planning.specs.Expansion.{Entry, entries}

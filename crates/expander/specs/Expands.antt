@@ -1,7 +1,6 @@
 -- What an expansion answers and leaves in the lent list tables, by the definition of the plan: document 01, "Expansion"; document 02, W10.
 -- Definitions only.
-use Rattle.std.specs.Prelude.{◌≡◌, Bool, true, false, not, List, [], ℕ, min, T, length}
-use Rattle.base.specs.Bools.{if◌then◌else◌}
+use Rattle.std.specs.Prelude.{◌≡◌, Bool, true, false, not, List, [], ℕ, min, T, length, if◌then◌else◌}
 pub use Rattle.base.specs.Lists.{over}
 use Rattle.refusal.specs.Checked.{Checked, accepted, refused, and_then}
 use Rattle.conditions.specs.declared.Condition.{Condition}

@@ -1,13 +1,12 @@
 -- What a caller of the expansion learns: the tables hold the list of the plan, and the list has the properties that the theory of plans shows.
 -- Assumes nothing.
-use Rattle.std.specs.Prelude.{◌≡◌, refl, Bool, not, ◌↔◌, List, [], map, ℕ, suc, ◌≤◌, ◌<◌, T, length, get_or, take, drop}
+use Rattle.std.specs.Prelude.{◌≡◌, refl, Bool, not, ◌↔◌, List, [], map, ℕ, suc, ◌≤◌, ◌<◌, T, length, get_or, take, drop, if◌then◌else◌}
 use Rattle.std.proofs.Common.{sym, ap, ◌∙◌, subst, T_not, length-append}
 use Rattle.std.proofs.Math.Bool.{true, false}
 use native.Mathlib.Omega.{arith}
 use Rattle.std.proofs.lemmas.List.{length-map}
 use Rattle.std.proofs.Math.ListN.{get_or-append, get_or-map}
 use Rattle.std.proofs.Math.Seq.{take-length}
-use Rattle.base.specs.Bools.{if◌then◌else◌}
 use Rattle.base.specs.Lists.{get_d_inside}
 use Rattle.refusal.specs.Checked.{accepted, and_then}
 use Rattle.conditions.specs.declared.Found.TheVariants.{Nowhere}

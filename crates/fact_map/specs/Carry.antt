@@ -1,7 +1,6 @@
 -- The same in sets, as the code finds it: where the facts of a set are sent.
 -- Definitions only.
-use Rattle.std.specs.Prelude.{ℕ, ◌-◌, ◌/◌, ◌%◌, ◌^◌, Bool, ◌&&◌, ◌||◌, not, List, [], ◌∷◌, eqb, ltb}
-use Rattle.base.specs.Bools.{if◌then◌else◌}
+use Rattle.std.specs.Prelude.{ℕ, ◌-◌, ◌/◌, ◌%◌, ◌^◌, Bool, ◌&&◌, ◌||◌, not, List, [], ◌∷◌, eqb, ltb, if◌then◌else◌}
 use Rattle.masks.specs.Sets.{union, difference, intersects}
 use Rattle.refusal.specs.Checked.{Checked, accepted, refused, refused_by}
 use Rattle.reading.specs.declared.Reading.{Reading}

@@ -1,6 +1,6 @@
 -- Where the facts of a set are sent, fact by fact, and how the loops go on.
 -- Assumes nothing.
-use Rattle.std.specs.Prelude.{ℕ, zero, suc, ◌+◌, ◌-◌, ◌*◌, ◌/◌, ◌%◌, ◌^◌, ◌≤◌, ◌<◌, ◌≡◌, ◌⊎◌, Bool, ◌&&◌, ◌||◌, List, [], ◌∷◌, length, get_or, drop}
+use Rattle.std.specs.Prelude.{ℕ, zero, suc, ◌+◌, ◌-◌, ◌*◌, ◌/◌, ◌%◌, ◌^◌, ◌≤◌, ◌<◌, ◌≡◌, ◌⊎◌, Bool, ◌&&◌, ◌||◌, List, [], ◌∷◌, length, get_or, drop, if◌then◌else◌}
 use Rattle.std.proofs.Common.{pow-suc, arith, ap, ◌∙◌, ⊎_elim, drop_of_length-le, drop-cons, pow_pos}
 use Rattle.std.proofs.Math.Path.{refl}
 use Rattle.std.proofs.Math.Logic.{inl, inr}
@@ -8,7 +8,7 @@ use Rattle.std.proofs.Math.Bool.{true, false, not}
 use Rattle.std.proofs.Math.Dec.{T, eqb, ltb}
 use Rattle.std.proofs.Math.Seq.{drop-length}
 use borrow.Author.Tests.{lt-ltb, le-ltb, eqb-true, eqb-false, ltb-true}
-use Rattle.base.specs.Bools.{if◌then◌else◌, and_left, and_right, neither_left, neither_right, holds, fails, is_true, is_false}
+use Rattle.base.specs.Bools.{and_left, and_right, neither_left, neither_right, holds, fails, is_true, is_false}
 use Rattle.masks.specs.Sets.{bit, intersects, union}
 use Rattle.masks.specs.Bits.{bit_le, bit_empty, bits, same_bits, disjoint_bits, bits_disjoint}
 use Rattle.fact_map.specs.FactMap.{DROPPED, sent, sends, Source, fact, none, next, source_of, set_of}

@@ -1,7 +1,6 @@
 -- The facts of one table as facts of another: document 02, W14. "One byte for each old fact gives its new number, or 255 for dropped."
 -- Definitions only.
-use Rattle.std.specs.Prelude.{ℕ, zero, suc, ◌+◌, ◌*◌, Bool, true, false, not, ◌&&◌, ◌||◌, List, [], ◌∷◌, eqb, ltb, length}
-use Rattle.base.specs.Bools.{if◌then◌else◌}
+use Rattle.std.specs.Prelude.{ℕ, zero, suc, ◌+◌, ◌*◌, Bool, true, false, not, ◌&&◌, ◌||◌, List, [], ◌∷◌, eqb, ltb, length, if◌then◌else◌}
 use Rattle.masks.specs.Sets.{bit}
 use Rattle.refusal.specs.Checked.{Checked, accepted, refused}
 use Rattle.reading.specs.declared.Reading.{Reading}

@@ -1,10 +1,10 @@
 -- Laws of maps of facts: the reading that the code finds in sets is the one that is carried over fact by fact; it is sound where the old one is.
 -- Assumes nothing.
-use Rattle.std.specs.Prelude.{ℕ, ◌+◌, ◌-◌, ◌≤◌, max, ◌≡◌, refl, Bool, List, T, eqb, length}
+use Rattle.std.specs.Prelude.{ℕ, ◌+◌, ◌-◌, ◌≤◌, max, ◌≡◌, refl, Bool, List, T, eqb, length, if◌then◌else◌}
 use Rattle.std.proofs.Math.Decide.{dec_le}
 use Rattle.std.proofs.Common.{arith, sym, ap, ◌∙◌, eq-eqb, ne_eqb}
 use Rattle.std.proofs.Math.Bool.{true, false}
-use Rattle.base.specs.Bools.{if◌then◌else◌, and_intro, and_right, holds, is_true}
+use Rattle.base.specs.Bools.{and_intro, and_right, holds, is_true}
 use Rattle.masks.specs.Sets.{union, difference, within}
 use Rattle.masks.specs.Bits.{bit_le, bits, same_bits, disjoint_bits, bits_disjoint, bits_within}
 use Rattle.refusal.specs.Checked.{accepted, refused}

@@ -1,7 +1,6 @@
 -- The checks that the papers make of one job: document 01, "Stops, in checking order", 5 and 6; document 02, W3, 19, and W10, 22.
 -- Definitions only.
-use Rattle.std.specs.Prelude.{ℕ, ◌≤◌, ◌≡◌, Bool, true, false, ◌&&◌, ◌||◌, leb}
-use Rattle.base.specs.Bools.{if◌then◌else◌}
+use Rattle.std.specs.Prelude.{ℕ, ◌≤◌, ◌≡◌, Bool, true, false, ◌&&◌, ◌||◌, leb, if◌then◌else◌}
 use Rattle.masks.specs.Sets.{intersects, within}
 use Rattle.refusal.specs.Checked.{Checked, accepted, refused, refused_by}
 use Rattle.job.specs.declared.Job.{Job}

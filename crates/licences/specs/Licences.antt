@@ -1,7 +1,6 @@
 -- Two fitters at one vehicle: document 02, W12. "Each job gets a licence byte: 1 first fitter, 2 second, 3 both."
 -- Definitions only.
-use Rattle.std.specs.Prelude.{ℕ, Bool, true, false, ◌&&◌, List, eqb, leb, length, get_or}
-use Rattle.base.specs.Bools.{if◌then◌else◌}
+use Rattle.std.specs.Prelude.{ℕ, Bool, true, false, ◌&&◌, List, eqb, leb, length, get_or, if◌then◌else◌}
 use Rattle.refusal.specs.Checked.{Checked, accepted, refused, refused_by, and_then, checked_each}
 use Rattle.licences.specs.declared.Fitter.{Fitter}
 use Rattle.licences.specs.declared.Fitter.TheVariants.{First, Second}

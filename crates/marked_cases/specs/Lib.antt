@@ -5,6 +5,4 @@ pub mod Cases
 pub mod Checklist
 pub mod Printed
 -- computations
-pub mod Computed
-pub mod PairsComputed
 pub mod Yard

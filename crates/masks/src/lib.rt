@@ -42,6 +42,7 @@ pub fn others(a: u64) -> u64
 }
 
 // Has `a` no fact at or above `facts`? A mask has 64 bits, so with 64 facts or more it has none.
+#[tactic(auto, using(crate::specs::Laws::word_within, crate::specs::Laws::within_shift))]
 pub fn is_within(facts: u8, a: u64) -> bool
     ensures { result ≡ within facts a }
 {

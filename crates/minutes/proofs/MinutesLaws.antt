@@ -8,6 +8,7 @@ use Rattle.std.proofs.Math.IntN.{neg_ℤ-neg_ℤ}
 use Rattle.std.specs.Float.Ieee as ieee
 use Rattle.std.specs.Float.Ieee.Nearest.{closest, closest_mono}
 use Rattle.minutes.specs.Minutes.{nearest, minutes_of}
+use Rattle.minutes.specs.NearestMinute.{Nearest}
 
 -- ---- the three ways through the rule
 
@@ -23,13 +24,6 @@ module _ (n : ℕ) where
   pub nearest_down : n % 60 < 30 → nearest n ≡ n / 60
   unfolding nearest
   nearest_down h = rw (lt-leb 31 (n % 60) (omega arith), ne_eqb (n % 60) 30 (λ e. omega arith))
-
--- "the nearest minute with an exact half going to the even one": at most half a minute above the seconds or below them, and even where they
--- are an exact half; one number is that
-pub record Nearest (n minutes : ℕ) : Type 0 where
-  pub above : minutes * 60 ≤ n + 30
-  pub below : n ≤ minutes * 60 + 30
-  pub even : n % 60 ≡ 30 → minutes % 2 ≡ 0
 
 -- the rest of a minute, against its half
 data Rest (r : ℕ) : Type 0 where

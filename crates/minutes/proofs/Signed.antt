@@ -172,9 +172,23 @@ module _ (z : ℤ) (f : SFits w64 z) where
   pub minutes_held : {s : ℤ} → s ≡ minutes_of z → held s ≡ minutes_of z
   minutes_held e = rw e (to_z-of_z (minutes_fit z f))
 
+  pub up_held : lt_z (pos 30) (held (remainder (held z))) ≡ true → held (held (quotient (held z)) +ℤ pos 1) ≡ minutes_of z
+  up_held t = minutes_held (up t)
+
+  pub down_held : lt_z (held (remainder (held z))) (negsuc 29) ≡ true → held (held (quotient (held z)) -ℤ pos 1) ≡ minutes_of z
+  down_held t = minutes_held (down t)
+
   -- `==` compares the bits
   pub tested : (b : ℕ) → of_z w64 (remainder (held z)) ≡ b → remainder z ≡ to_z w64 b
   tested b t = sym (to_z-of_z (rem_fits 60 z f)) ∙ ap (to_z w64) (rw (to_z-of_z f) at t)
 
   pub untested : (r : ℤ) → remainder z ≡ r → of_z w64 (remainder (held z)) ≡ of_z w64 r
   untested r e = rw (to_z-of_z f) (ap (of_z w64) e)
+
+  pub less_held : lt_z (pos 30) (held (remainder (held z))) ≡ false → lt_z (held (remainder (held z))) (negsuc 29) ≡ false
+      → (of_z w64 (remainder (held z)) ≡ 30 → ⊥) → (of_z w64 (remainder (held z)) ≡ 2 ^ 64 - 30 → ⊥) → held (quotient (held z)) ≡ minutes_of z
+  less_held t u above below = less t u not_half
+    where
+      not_half : Half z → ⊥
+      not_half (over e) = above (untested (pos 30) e)
+      not_half (under e) = below (untested (negsuc 29) e)

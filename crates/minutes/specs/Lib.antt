@@ -1,1 +1,2 @@
 pub mod Minutes
+pub mod NearestMinute

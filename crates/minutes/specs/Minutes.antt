@@ -1,8 +1,7 @@
 -- Whole minutes of the lateness on a job card and of the time of a way, "in minutes rounded alike" (document 01). Document 02, W1: "to the
 -- nearest minute with an exact half going to the even one", in place of document 01's half away from zero.
 -- Assumes nothing.
-use Rattle.std.specs.Prelude.{ℕ, suc, ◌+◌, ◌/◌, ◌%◌, eqb, leb, ℤ, pos, negsuc, neg_ℤ}
-use Rattle.base.specs.Bools.{if◌then◌else◌}
+use Rattle.std.specs.Prelude.{ℕ, suc, ◌+◌, ◌/◌, ◌%◌, eqb, leb, ℤ, pos, negsuc, neg_ℤ, if◌then◌else◌}
 
 -- the nearest minute of a number of seconds without its sign: past the half the rest of a minute counts as a whole one; an exact half goes
 -- from an odd number of minutes to the next and leaves an even number as it is

@@ -6,6 +6,7 @@ ghost use Rattle.minutes.specs.Minutes.{nearest, minutes_of};
 
 // The nearest minute of a signed number of seconds; an exact half goes to the even one. Quotient and remainder are rounded
 // toward zero, so both signs are alike, and no sum is made that could wrap.
+#[tactic(auto, using(crate::proofs::Signed::up_held, crate::proofs::Signed::down_held, crate::proofs::Signed::less_held))]
 pub fn signed_minutes(seconds: i64) -> i64
     ensures { result ≡ minutes_of seconds }
 {

@@ -1,7 +1,6 @@
 -- From the bytes of a tree back to the list that they were written from: document 02, W7.
 -- Definitions only.
-use Rattle.std.specs.Prelude.{ℕ, ◌≡◌, Bool, false, List, [], leb, length}
-use Rattle.base.specs.Bools.{if◌then◌else◌}
+use Rattle.std.specs.Prelude.{ℕ, ◌≡◌, Bool, false, List, [], leb, length, if◌then◌else◌}
 use Rattle.refusal.specs.Checked.{Checked, accepted, refused, and_then}
 use Rattle.reading.specs.Reading.{state}
 use Rattle.conditions.specs.declared.Condition.{Condition}

@@ -1,7 +1,7 @@
 -- A list is recovered from exactly the trees that plans write. The plan for a list's last condition, as the start, gives that list again, so that one
 -- plan tells whether there is any.
 -- Assumes nothing.
-use Rattle.std.specs.Prelude.{ℕ, suc, ◌-◌, ◌≤◌, ◌<◌, ◌≡◌, refl, Bool, ◌↔◌, ◌⊎◌, T}
+use Rattle.std.specs.Prelude.{ℕ, suc, ◌-◌, ◌≤◌, ◌<◌, ◌≡◌, refl, Bool, ◌↔◌, ◌⊎◌, T, if◌then◌else◌}
 use native.Mathlib.Omega.{arith}
 use Rattle.std.proofs.Math.Path.{sym, ap, subst}
 use Rattle.std.proofs.Common.{◌∙◌, inl, inr, ⊎_elim, T_not}
@@ -10,7 +10,7 @@ use mathlib.Core.List.{List, [], ◌∷◌}
 use Rattle.std.proofs.Math.Dec.{leb}
 use Rattle.std.proofs.Math.ListN.{length}
 use borrow.Author.Tests.{le-leb, lt-leb, leb-true, leb-false}
-use Rattle.base.specs.Bools.{if◌then◌else◌, holds, fails, is_true, and_left}
+use Rattle.base.specs.Bools.{holds, fails, is_true, and_left}
 use Rattle.base.specs.Lists.{prefix, prefix_all}
 use Rattle.masks.specs.Sets.{within}
 use Rattle.masks.specs.Laws.{within_word}

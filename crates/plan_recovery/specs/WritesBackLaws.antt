@@ -1,8 +1,8 @@
 -- What the parts of the code found comes to the list that is due, and what they leave to what is written back.
 -- Assumes nothing.
-use Rattle.std.specs.Prelude.{ℕ, ◌≤◌, ◌<◌, ◌≡◌, refl, Bool, true, false, List, T, ltb, leb, length, get_or}
+use Rattle.std.specs.Prelude.{ℕ, ◌≤◌, ◌<◌, ◌≡◌, refl, Bool, true, false, List, T, ltb, leb, length, get_or, if◌then◌else◌}
 use Rattle.std.proofs.Common.{arith, sym, ap, ◌∙◌, subst, ⊎_elim, T_not, ltb-false, leb-true, leb-false, lt-ltb, le-ltb}
-use Rattle.base.specs.Bools.{if◌then◌else◌, holds, fails}
+use Rattle.base.specs.Bools.{holds, fails}
 use Rattle.refusal.specs.Checked.{Checked, accepted, refused, and_then}
 use Rattle.numbers.specs.Numbers.{AreBytes}
 use Rattle.conditions.specs.declared.Condition.{Condition}

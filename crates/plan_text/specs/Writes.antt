@@ -1,7 +1,6 @@
 -- What writing a text into a lent slice leaves there: as much of it as the slice has room for.
 -- Definitions only.
-use Rattle.std.specs.Prelude.{◌≡◌, Bool, List, ◌++◌, ℕ, min, length, take, drop}
-use Rattle.base.specs.Bools.{if◌then◌else◌}
+use Rattle.std.specs.Prelude.{◌≡◌, Bool, List, ◌++◌, ℕ, min, length, take, drop, if◌then◌else◌}
 
 -- a whole text, put from the beginning: how many bytes of it stand there, and that nothing past it is touched
 pub record Wrote (text before after : List ℕ) (count : ℕ) : Type 0 where

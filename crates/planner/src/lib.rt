@@ -1,6 +1,7 @@
 // The plan for a vehicle: from a table's bytes and a start reading, the list of conditions, its tree, and the way with its time (document 01,
 // "Expansion" and "Job card", the table's stops and 8 to 12; document 02, W5 and W10).
 #![tactic(auto)]
+
 ghost use Rattle.std.specs.Prelude.{◌≡◌, suc, ◌-◌, length};
 ghost use Rattle.refusal.specs.Checked.{accepted};
 ghost use Rattle.table.specs.Read.{read_table, jobs_of, headed, table_read_of};

@@ -1,7 +1,6 @@
 -- How far the program has to read its files, and what a buffer holds of a file.
 -- Definitions only.
-use Rattle.std.specs.Prelude.{◌≡◌, List, [], ◌∷◌, ℕ, ◌+◌, ◌*◌, max, min, length, take}
-use Rattle.base.specs.Bools.{if◌then◌else◌}
+use Rattle.std.specs.Prelude.{◌≡◌, List, [], ◌∷◌, ℕ, ◌+◌, ◌*◌, max, min, length, take, if◌then◌else◌}
 use Rattle.commands.specs.declared.Command.{Command}
 use Rattle.commands.specs.Commands.{commands}
 use Rattle.table.specs.declared.Stage.{Stage}

@@ -4,7 +4,7 @@
 use borrow.Author.Tests.{lt-ltb, le-leb, ne_eqb, eqb-true, eqb-false}
 use Rattle.std.proofs.Math.Decide.{dec_le}
 use Rattle.std.proofs.Common.{arith, sym, ◌∙◌, length-append, take-append-drop, take_all, length-take-le}
-use Rattle.std.specs.Prelude.{◌≡◌, Bool, eqb, leb, get_or, take, drop}
+use Rattle.std.specs.Prelude.{◌≡◌, Bool, eqb, leb, get_or, take, drop, if◌then◌else◌}
 use Rattle.std.proofs.Math.Path.{refl, ap}
 use Rattle.std.proofs.Math.Bool.{true, false}
 use mathlib.Core.List.{List, [], ◌∷◌, ◌++◌}
@@ -12,7 +12,6 @@ use Prim.Native.Nat.{ℕ, zero, suc, ◌+◌, ◌*◌, ◌≤◌}
 use Rattle.std.proofs.Math.ListN.{length, length-drop, get_or-append}
 use Rattle.std.proofs.Math.Seq.{take-append-le}
 use Rattle.std.proofs.lemmas.List.{drop-append-le}
-use Rattle.base.specs.Bools.{if◌then◌else◌}
 use Rattle.refusal.specs.Checked.{Checked, accepted, refused, and_then}
 use Rattle.commands.specs.declared.Command.{Command}
 use Rattle.commands.specs.declared.Width.{Width}

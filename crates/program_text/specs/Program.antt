@@ -1,7 +1,6 @@
 -- What the program prints, from the bytes of `bay.tab` and `start.bay`: document 01, "A trailer on the hitch"; document 02, W10.
 -- Definitions only.
-use Rattle.std.specs.Prelude.{Bool, List, ℕ, eqb, length}
-use Rattle.base.specs.Bools.{if◌then◌else◌}
+use Rattle.std.specs.Prelude.{Bool, List, ℕ, eqb, length, if◌then◌else◌}
 use Rattle.refusal.specs.Checked.{Checked, accepted, refused}
 use Rattle.numbers.specs.Numbers.{number_at}
 use Rattle.reading.specs.declared.Reading.{Reading}

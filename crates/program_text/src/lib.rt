@@ -1,6 +1,7 @@
 // The text of the program of document 01, "A trailer on the hitch", made from what was read of `bay.tab` and `start.bay`. Document 02, W10, adds the
 // second masks.
 #![tactic(auto)]
+
 ghost use Rattle.expander.specs.Expands.{columns};
 ghost use Rattle.program_text.specs.Shows.{Lent, Prints, Fits, Shows, PlannedFrom, planned_text};
 

@@ -1,7 +1,6 @@
 -- Readings of a vehicle: document 01, "A reading is two masks, held and unread. A fact in neither is read and absent."
 -- Definitions only.
-use Rattle.std.specs.Prelude.{ℕ, Bool, not, ◌&&◌, T, eqb}
-use Rattle.base.specs.Bools.{if◌then◌else◌}
+use Rattle.std.specs.Prelude.{ℕ, Bool, not, ◌&&◌, T, eqb, if◌then◌else◌}
 use Rattle.refusal.specs.Checked.{Checked, accepted, refused, refused_by, and_then}
 use Rattle.masks.specs.Sets.{subset, intersects, union, within}
 use Rattle.reading.specs.declared.Reading.{Reading}

@@ -1,11 +1,11 @@
 -- Laws of readings and of the states that complete them.
 -- Assumes nothing.
-use Rattle.std.specs.Prelude.{ℕ, ◌≡◌, Bool, not, T, eqb}
+use Rattle.std.specs.Prelude.{ℕ, ◌≡◌, Bool, not, T, eqb, if◌then◌else◌}
 use Rattle.std.proofs.Common.{arith}
 use Rattle.std.proofs.Math.Path.{refl}
 use Rattle.std.proofs.Math.Bool.{true, false}
 use borrow.Author.Tests.{eq-eqb, ne_eqb}
-use Rattle.base.specs.Bools.{if◌then◌else◌, and_intro, and_left, and_right}
+use Rattle.base.specs.Bools.{and_intro, and_left, and_right}
 use Rattle.refusal.specs.Checked.{Checked, accepted, refused, and_then}
 use Rattle.refusal.specs.CheckedLaws.{accepted_if, accepted_same, accepted_then}
 use Rattle.masks.specs.Sets.{intersects, union, within}

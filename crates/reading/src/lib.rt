@@ -49,6 +49,7 @@ pub fn check_reading(facts: u8, place: usize, reading: Reading) -> ReadingChecke
 }
 
 // A start for planning, under a table with so many facts: any reading.
+#[tactic(auto, using(crate::specs::ReadingLaws::start_unsound, crate::specs::ReadingLaws::start_unread, crate::specs::ReadingLaws::start_sound))]
 pub fn check_start(facts: u8, start: Reading) -> ReadingChecked
     ensures { reading_of result ≡ checked_start facts start }
 {

@@ -1,7 +1,6 @@
 -- What the parts of a recovery give.
 -- Definitions only.
-use Rattle.std.specs.Prelude.{ℕ, ◌≤◌, Bool, length, get_or}
-use Rattle.base.specs.Bools.{if◌then◌else◌}
+use Rattle.std.specs.Prelude.{ℕ, ◌≤◌, Bool, length, get_or, if◌then◌else◌}
 use Rattle.base.specs.Lists.{overlay}
 use Rattle.refusal.specs.Checked.{Checked, accepted, refused}
 use Rattle.expander.specs.Expands.{Columns, columns}

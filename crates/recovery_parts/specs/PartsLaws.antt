@@ -1,8 +1,7 @@
 -- What is told, and what is copied, one law for each way.
 -- Assumes nothing.
-use Rattle.std.specs.Prelude.{ℕ, ◌+◌, ◌<◌, ◌≡◌, refl, Bool, true, false, List, ◌++◌, map, length, drop, get_or, set}
+use Rattle.std.specs.Prelude.{ℕ, ◌+◌, ◌<◌, ◌≡◌, refl, Bool, true, false, List, ◌++◌, map, length, drop, get_or, set, if◌then◌else◌}
 use Rattle.std.proofs.Common.{arith, sym, ap, ◌∙◌}
-use Rattle.base.specs.Bools.{if◌then◌else◌}
 use Rattle.base.specs.Lists.{prefix_same, map_prefix, prefix_all, over, overlay, overlay_next}
 use Rattle.refusal.specs.Checked.{accepted, refused}
 use Rattle.conditions.specs.declared.Condition.{Condition}

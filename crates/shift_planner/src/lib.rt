@@ -1,5 +1,6 @@
 // The plan for the whole shift, which takes no start (document 02, W2).
 #![tactic(auto)]
+
 ghost use Rattle.expander.specs.Expands.{columns};
 ghost use Rattle.shift_planner.specs.Shift.{PlansShift};
 

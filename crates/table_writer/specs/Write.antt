@@ -3,8 +3,7 @@
 -- can hold is refused as any other that is not 1 to 64. Document 02, W10: a job's command is 0x20 or 0x21, and a 0x21 without absent facts is no 0x20,
 -- so the columns have each job's command. A row that no command's bytes can hold is told before anything else is judged: no mask is left out.
 -- Definitions only.
-use Rattle.std.specs.Prelude.{ℕ, zero, suc, ◌+◌, ◌<◌, ◌≡◌, Bool, ◌&&◌, ◌||◌, List, ◌++◌, eqb, leb, length, get_or, drop}
-use Rattle.base.specs.Bools.{if◌then◌else◌}
+use Rattle.std.specs.Prelude.{ℕ, zero, suc, ◌<◌, ◌≡◌, Bool, ◌&&◌, ◌||◌, List, ◌++◌, eqb, leb, length, get_or, drop, if◌then◌else◌}
 use Rattle.base.specs.Lists.{prefix}
 use Rattle.refusal.specs.Numbers.{number_of}
 use Rattle.refusal.specs.Checked.{Checked, accepted, refused, refused_by, and_then}

@@ -6,13 +6,13 @@ use Rattle.std.proofs.Common.{zero-add, sym, ap, ◌∙◌, append_assoc, length
 use Rattle.std.proofs.Math.Numerals.{add-one}
 use Rattle.std.proofs.Math.Decide.{dec_lt}
 use native.Mathlib.Omega.{arith}
-use Rattle.std.specs.Prelude.{◌≡◌, Bool, true, false, ◌&&◌, List, [], ◌∷◌, ◌++◌, T, eqb, leb, get_or, set, take, drop}
+use Rattle.std.specs.Prelude.{◌≡◌, Bool, true, false, ◌&&◌, List, [], ◌∷◌, ◌++◌, T, eqb, leb, get_or, set, take, drop, if◌then◌else◌}
 use Rattle.std.proofs.Math.Path.{refl}
 use borrow.Author.Tests.{eqb-true, le-leb, lt-leb, leb-true}
 use Rattle.std.proofs.Math.ListN.{length, get_or-eq_default}
 use Rattle.std.proofs.lemmas.List.Edits.{sets, sets-eq}
 use Rattle.std.proofs.Math.Seq.{drop-cons, take-suc, take_all}
-use Rattle.base.specs.Bools.{if◌then◌else◌, holds, is_true, and_left, and_right}
+use Rattle.base.specs.Bools.{holds, is_true, and_left, and_right}
 use Rattle.base.specs.Lists.{length_prefix, get_d_prefix}
 use Rattle.masks.specs.Sets.{within}
 use Rattle.refusal.specs.declared.Refusal.{Refusal}

@@ -1,6 +1,7 @@
 // The table writer: a table, given by its number of facts, the columns of its jobs and its goal, to bytes in a lent slice (document 01, "Commands";
 // document 02, W10).
 #![tactic(auto)]
+
 ghost use Rattle.std.specs.Prelude.{◌≡◌, ◌+◌, ◌≤◌, ◌<◌, true, length};
 ghost use Rattle.std.proofs.lemmas.List.Edits.{sets};
 ghost use Rattle.commands.specs.Commands.{FACTS_SIZE, GOAL_SIZE, END_OF_TABLE_SIZE, EFFECTS_WIDTH};

@@ -1,9 +1,8 @@
 -- What the parts of the code leave comes to the plan for the team that the definition gives, and what its answer tells.
 -- Assumes nothing.
-use Rattle.std.specs.Prelude.{ℕ, ◌≤◌, ◌<◌, ◌≡◌, refl, Bool, true, false, ◌&&◌, List, ◌++◌, leb, length, drop}
+use Rattle.std.specs.Prelude.{ℕ, ◌≤◌, ◌<◌, ◌≡◌, refl, Bool, true, false, ◌&&◌, List, ◌++◌, leb, length, drop, if◌then◌else◌}
 use Rattle.std.proofs.Common.{arith, sym, ap, ◌∙◌, le-leb, leb-false}
 use Rattle.std.proofs.lemmas.Bool.{lt-leb}
-use Rattle.base.specs.Bools.{if◌then◌else◌}
 use Rattle.refusal.specs.Checked.{Checked, accepted, refused, and_then}
 use Rattle.refusal.specs.CheckedLaws.{accepted_then}
 use Rattle.reading.specs.declared.Reading.{Reading}
@@ -163,7 +162,7 @@ module _ (licences : List ℕ) {t : Table} {start : ℕ} {before after : Columns
   unfolding team_plan
   team_built n e trees W =
       lists_finished (two_trees licences (pairs t) space) (pairs t) (BothAtFront lent trees) told (Covers start) (table_list (Covers start) t (room before)) before after
-      L.tables (held (used (pairs t) after) n) (L.List-held n e) (trees_held licences (pairs t) space after n lent trees told W)
+      L.tables (held (used (pairs t) after) n) (L.list_held n e) (trees_held licences (pairs t) space after n lent trees told W)
 
 -- nothing is written
 pub team_nothing : (n p : ℕ) (before : Columns) (lent : Fitter → List ℕ) (told : Checked TeamSize) → told ≡ refused n p

@@ -1,4 +1,5 @@
 -- definitions
 pub mod Team
 pub mod Promise
+
 -- laws

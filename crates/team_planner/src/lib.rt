@@ -1,5 +1,6 @@
 // The plan for two fitters at one vehicle: one list for the team, and a tree for each (document 02, W12).
 #![tactic(auto)]
+
 ghost use Rattle.std.specs.Prelude.{◌≡◌, List, ℕ, ◌≤◌, length};
 ghost use Rattle.table.specs.Read.{headed, table_read_of};
 ghost use Rattle.tree.specs.ReadTree.{max_children};

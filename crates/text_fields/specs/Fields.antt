@@ -1,9 +1,8 @@
 -- The fields of a printed line, in bytes: words, decimal numbers and masks (document 01, "A trailer on the hitch").
 -- Definitions only.
-use Rattle.std.specs.Prelude.{List, [], ◌∷◌, ℕ, zero, suc, ◌+◌, ◌-◌, ◌/◌, ◌%◌, ◌^◌, ltb}
+use Rattle.std.specs.Prelude.{List, [], ◌∷◌, ℕ, zero, suc, ◌+◌, ◌-◌, ◌/◌, ◌%◌, ◌^◌, ltb, if◌then◌else◌}
 use Prim.Native.Char.{code}
 use Prim.Native.String as S
-use Rattle.base.specs.Bools.{if◌then◌else◌}
 
 -- a quoted text of ASCII characters, in bytes
 abbrev pub ascii : S.String → List ℕ

@@ -1,7 +1,6 @@
 -- The walk of the code: it checks each node and, while the answer is open, ticks it. One walk stands for the tree reader and the tick together.
 -- Definitions only.
-use Rattle.std.specs.Prelude.{ℕ, zero, suc, ◌-◌, ◌≤◌, ◌≡◌, Bool, true, false, ◌&&◌, List, ltb}
-use Rattle.base.specs.Bools.{if◌then◌else◌}
+use Rattle.std.specs.Prelude.{ℕ, zero, suc, ◌-◌, ◌≤◌, ◌≡◌, Bool, true, false, ◌&&◌, List, ltb, if◌then◌else◌}
 use Rattle.refusal.specs.Checked.{Checked, accepted, refused, refused_by, and_then}
 use Rattle.commands.specs.Commands.{Past}
 use Rattle.reading.specs.declared.Reading.{Reading}

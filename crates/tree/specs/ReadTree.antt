@@ -2,8 +2,7 @@
 -- document 02, W10 and W12).
 -- "In a tree, its length first, then nodes in byte order, then END." Within a node 13 comes before 14, and 14 before 15.
 -- Definitions only.
-use Rattle.std.specs.Prelude.{ℕ, zero, suc, ◌+◌, ◌-◌, Bool, true, ◌&&◌, List, eqb, ltb, leb, length, get_or}
-use Rattle.base.specs.Bools.{if◌then◌else◌}
+use Rattle.std.specs.Prelude.{ℕ, zero, suc, ◌+◌, ◌-◌, Bool, true, ◌&&◌, List, eqb, ltb, leb, length, get_or, if◌then◌else◌}
 use Rattle.refusal.specs.Checked.{Checked, accepted, refused, and_then}
 use Rattle.commands.specs.declared.Found.{Found}
 use Rattle.commands.specs.declared.Found.TheVariants.{Missing, Unknown, Cut, Whole}

@@ -6,11 +6,10 @@ use Rattle.std.proofs.Math.Decide.{dec_le}
 use native.Mathlib.Omega.{arith}
 use Rattle.std.proofs.Math.Path.{◌≡◌, refl, ap, subst}
 use Rattle.std.proofs.Common.{sym, ◌∙◌}
-use Rattle.std.specs.Prelude.{Bool, ◌&&◌, List, eqb, ltb, length, get_or}
+use Rattle.std.specs.Prelude.{Bool, ◌&&◌, List, eqb, ltb, length, get_or, if◌then◌else◌}
 use Rattle.std.proofs.Math.Bool.{true, false}
 use borrow.Author.Tests.{eq-eqb, ne_eqb, le-leb, lt-leb, leb-true, le-ltb, lt-ltb, ltb-true, ltb-false}
 use Rattle.std.proofs.Math.Dec.{leb}
-use Rattle.base.specs.Bools.{if◌then◌else◌}
 use Rattle.refusal.specs.Checked.{Checked, accepted, refused, and_then}
 use Rattle.refusal.specs.CheckedLaws.{not_both, accepted_same, accepted_then, accepted_if}
 use Rattle.commands.specs.declared.Found.{Found}

@@ -1,7 +1,6 @@
 -- The tick of a tree on a reading: document 01, "Ticking"; document 02, W12.
 -- Definitions only.
-use Rattle.std.specs.Prelude.{ℕ, Bool, true, false, List, [], ◌∷◌, get_or}
-use Rattle.base.specs.Bools.{if◌then◌else◌}
+use Rattle.std.specs.Prelude.{ℕ, Bool, true, false, List, [], ◌∷◌, get_or, if◌then◌else◌}
 use Rattle.reading.specs.declared.Reading.{Reading}
 use Rattle.conditions.specs.declared.Evaluation.{Evaluation}
 use Rattle.conditions.specs.declared.Evaluation.TheVariants.{Met, Missed, Open}

@@ -1,11 +1,10 @@
 -- What ticks promise, of any tree: a settled answer stands however the unread facts turn out, and so does the leaf that decided it; and where
 -- nothing is unread, every answer is settled. Document 01, "Ticking".
 -- Assumes nothing.
-use Rattle.std.specs.Prelude.{ℕ, ◌≡◌, Bool, List}
+use Rattle.std.specs.Prelude.{ℕ, ◌≡◌, Bool, List, if◌then◌else◌}
 use Rattle.std.proofs.Common.{arith, sym, ◌∙◌}
 use Rattle.std.proofs.Math.Path.{refl}
 use Rattle.std.proofs.Math.Bool.{true, false}
-use Rattle.base.specs.Bools.{if◌then◌else◌}
 use Rattle.reading.specs.declared.Reading.{Reading}
 use Rattle.reading.specs.Reading.{Completes, state}
 use Rattle.conditions.specs.declared.Evaluation.{Evaluation}

@@ -1,7 +1,6 @@
 -- What the bytes of a tree show of the list that they were written from: document 02, W7.
 -- Definitions only.
-use Rattle.std.specs.Prelude.{ℕ, ◌+◌, ◌-◌, ◌≤◌, ◌≡◌, Bool, true, false, ◌&&◌, List, [], ◌∷◌, eqb, leb, length}
-use Rattle.base.specs.Bools.{if◌then◌else◌}
+use Rattle.std.specs.Prelude.{ℕ, ◌+◌, ◌-◌, ◌≤◌, ◌≡◌, Bool, true, false, ◌&&◌, List, [], ◌∷◌, eqb, leb, length, if◌then◌else◌}
 use Rattle.refusal.specs.Checked.{Checked, accepted, and_then}
 use Rattle.commands.specs.Commands.{MASK_WIDTH, JOB_LEAF_SIZE, END_OF_TREE_SIZE}
 use Rattle.numbers.specs.Numbers.{number_at}

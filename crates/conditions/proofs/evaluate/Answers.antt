@@ -1,8 +1,6 @@
 -- `conditions::evaluate` meets its contract: each way through its tests is one of the definition's.
-use borrow.Author.Tests.{not-true, not-false}
 use mathlib.Core.Path.{◌≡◌, sym, ap, ◌∙◌}
 use mathlib.Core.Bool.{true, false}
-use borrow.Author.Rules.{rules}
 use Rattle.masks.specs.Sets.{subset, intersects, union}
 use Rattle.conditions.specs.OnReadingLaws.{evaluated_present, evaluated_absent, evaluated_met, evaluated_open}
 use Rattle.conditions.proofs.evaluate.Goals as goal

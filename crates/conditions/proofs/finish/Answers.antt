@@ -1,5 +1,4 @@
 -- Each mask is put together as its definition is.
-use borrow.Author.Rules.{rules}
 use Rattle.conditions.specs.Condition.{applied}
 use Rattle.conditions.specs.OnReading.{finished}
 use Rattle.conditions.proofs.finish.Goals as goal

@@ -1,7 +1,6 @@
 -- The two tests are the two halves of the definition; the second is made where the first held.
 use mathlib.Core.Path.{ap, ◌∙◌}
 use mathlib.Core.Bool.{not}
-use borrow.Author.Rules.{rules}
 use Rattle.masks.specs.Sets.{intersects}
 use Rattle.conditions.specs.OnReading.{applicable}
 use Rattle.conditions.proofs.is_applicable.Goals as goal

@@ -1,6 +1,5 @@
 use mathlib.Core.Path.{ap}
 use mathlib.Core.Bool.{not}
-use borrow.Author.Rules.{rules}
 use Rattle.conditions.specs.Condition.{consistent}
 use Rattle.conditions.proofs.is_consistent.Goals as goal
 

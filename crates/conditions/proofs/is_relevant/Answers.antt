@@ -1,5 +1,4 @@
 -- The tests are those of the definition, in its order.
-use borrow.Author.Rules.{rules}
 use Rattle.conditions.specs.Condition.{relevant}
 use Rattle.conditions.proofs.is_relevant.Goals as goal
 

@@ -1,5 +1,4 @@
 -- `conditions::is_within` meets its contract: a union is within the facts exactly where both masks are.
-use borrow.Author.Rules.{rules}
 use Rattle.masks.specs.Laws.{within_both}
 use Rattle.conditions.proofs.is_within.Goals as goal
 

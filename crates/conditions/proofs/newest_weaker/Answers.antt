@@ -1,15 +1,14 @@
 -- `conditions::newest_weaker` meets its contract: what remains of the search gives the whole.
 use mathlib.Core.Path.{◌≡◌, sym, ap, ◌∙◌}
 use mathlib.Core.Bool.{Bool, true, false}
-use Prim.Native.Nat.{ℕ, suc, ◌-◌, ◌≤◌}
+use Prim.Native.Nat.{ℕ, suc, ◌-◌}
 use native.Mathlib.Omega.{arith}
 use lib.ListN.{get_or}
-use borrow.Author.Rules.{rules}
 use Rattle.masks.specs.Sets.{subset}
 use Rattle.conditions.specs.declared.Found.{Found}
 use Rattle.conditions.specs.Condition.{weaker, condition_at}
 use Rattle.conditions.specs.Search.{newest_weaker}
-use Rattle.conditions.specs.SearchLaws.{newest_none, newest_met, newest_other, part_both, first_other, second_other, passed_over, searches}
+use Rattle.conditions.specs.SearchLaws.{newest_met, newest_other, part_both, first_other, second_other, passed_over, searches}
 use Rattle.conditions.proofs.newest_weaker.Goals as goal
 use Rattle.conditions.proofs.newest_weaker.Lts as Lts
 use Rattle.conditions.proofs.newest_weaker.Tie as Tie
@@ -50,7 +49,7 @@ abbrev among : AtSearch → ℕ → Found
 among c i = newest_weaker (start_of c).args.conditions.now (start_of c).args.absences.now i (start_of c).args.c
 
 newer : (c : First) → suc ((turn_of c).search.k - 1) ≡ (turn_of c).search.k
-newer c = omega (arith, c.if-k-eq0.false)
+newer c = omega arith
 
 on_to : (c : First) → among (turn_of c) (suc ((turn_of c).search.k - 1)) ≡ among (turn_of c) (start_of (turn_of c)).args.n
 on_to c = ap (among (turn_of c)) (newer c) ∙ (turn_of c).search.invariant.1
@@ -98,11 +97,6 @@ search-preserved c = (
   omega (arith, (turn_of c.before.before).search.invariant.0),
   newest_other _ _ _ _ (first_fails c.before.before c.if-is_subset.false) ∙ on_to c.before.before,
 )
-
-pub returns-then-k-eq0 : goal.returns-then-k-eq0
-returns-then-k-eq0 c =
-    let none : 0 ≡ c.search.k = omega (arith, c.if-k-eq0.true) in
-    searches _ _ _ _ _ (newest_none _ _ _ ∙ ap (among c.before.before) none ∙ c.search.invariant.1)
 
 pub returns-then-is_subset-2 : goal.returns-then-is_subset-2
 returns-then-is_subset-2 c =

@@ -1,11 +1,6 @@
 -- `conditions::past_others` meets its contract: all that was passed has a fact that is not the mask's.
-use mathlib.Core.Path.{◌≡◌}
-use Prim.Native.Nat.{ℕ, ◌≤◌}
 use native.Mathlib.Decide.{dec_le}
 use native.Mathlib.Omega.{arith}
-use borrow.Author.Rules.{rules}
-use borrow.Author.Tests.{not-false}
-use Rattle.conditions.specs.Search.{Sharing}
 use Rattle.conditions.proofs.past_others.Goals as goal
 
 pub loop-k-init : goal.loop-k-init

@@ -1,10 +1,5 @@
 -- `conditions::past_others` meets its contract: all that was passed has a fact that is not the mask's.
-use mathlib.Core.Path.{◌≡◌}
-use Prim.Native.Nat.{ℕ, ◌≤◌}
-use native.Mathlib.Decide.{dec_le}
-use native.Mathlib.Omega.{arith}
-use borrow.Author.Rules.{rules}
-use borrow.Author.Tests.{not-false}
+use Prim.Native.Nat.{◌≤◌}
 use Rattle.conditions.specs.Search.{Sharing}
 use Rattle.conditions.proofs.past_others.Given as goal
 

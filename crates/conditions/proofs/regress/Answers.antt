@@ -1,5 +1,4 @@
 -- The operations are those of the definition.
-use borrow.Author.Rules.{rules}
 use Rattle.conditions.specs.Condition.{regressed}
 use Rattle.conditions.proofs.regress.Goals as goal
 

@@ -2,10 +2,7 @@
 use borrow.Author.Rules.{rules}
 use native.Mathlib.Omega.{arith}
 use Prim.Native.Nat.{◌-◌, ◌^◌}
-use lib.IntN.{pos, negsuc}
-use mir.Syntax.{w64}
-use mir.Val.{SFits}
-use Rattle.minutes.proofs.Signed.{Half, over, under, quot_held, again_held, sum_fits, rest_fits, up, down, even, less, minutes_held, tested, untested}
+use Rattle.minutes.proofs.Signed.{Half, over, under, quot_held, again_held, sum_fits, rest_fits, even, minutes_held, tested}
 use Rattle.minutes.proofs.signed_minutes.Reads as reads
 use Rattle.minutes.proofs.signed_minutes.Lts as lts
 use Rattle.minutes.proofs.signed_minutes.Goals as goal
@@ -19,14 +16,8 @@ nonzero_rem-rest c = (search rules, quot_held _ c.ranges.seconds _)
 pub overflow_add-result : goal.overflow_add-result
 overflow_add-result c = let f = c.ranges.seconds in sum_fits _ f _ (omega arith)
 
-pub returns-then-rest-gt30 : goal.returns-then-rest-gt30
-returns-then-rest-gt30 c = let f = c.ranges.seconds in minutes_held _ f (up _ f c.if-rest-gt30.true)
-
 pub overflow_sub-result : goal.overflow_sub-result
 overflow_sub-result c = let f = c.ranges.seconds in sum_fits _ f _ (omega arith)
-
-pub returns-then-rest-ltminus30 : goal.returns-then-rest-ltminus30
-returns-then-rest-ltminus30 c = let f = c.ranges.seconds in minutes_held _ f (down _ f c.if-rest-ltminus30.true)
 
 -- the remainder is 30 or -30, as 64 bits
 half : (c : lts.Joined3 reads.Pre reads.Post) → Half c.args.seconds
@@ -45,13 +36,3 @@ overflow_add-result-then-rest-eq30 c = let f = c.ranges.seconds in sum_fits _ f 
 
 pub returns-then-rest-eq30 : goal.returns-then-rest-eq30
 returns-then-rest-eq30 c = let f = c.ranges.seconds in minutes_held _ f (even _ f (half c))
-
-pub returns : goal.returns
-returns c = less _ f c.if-rest-gt30.false c.if-rest-ltminus30.false not_half
-  where
-    f : SFits w64 c.args.seconds
-    f = c.ranges.seconds
-
-    not_half : Half c.args.seconds → ⊥
-    not_half (over e) = c.if-rest-eq30.false (untested _ f (pos 30) e)
-    not_half (under e) = c.if-rest.false (untested _ f (negsuc 29) e)

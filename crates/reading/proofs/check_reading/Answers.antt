@@ -1,6 +1,4 @@
 -- `reading::check_reading` meets its contract.
-use borrow.Author.Rules.{rules}
-use borrow.Author.Tests.{not-true, not-false}
 use mathlib.Core.Path.{sym, ap, ◌∙◌}
 use Rattle.reading.specs.Reading.{reading_of}
 use Rattle.reading.specs.ReadingLaws.{checked_sound, checked_bad}

@@ -1,8 +1,6 @@
 -- `reading::is_sound` meets its contract: each test of the code is one of the definition's, in its order.
-use borrow.Author.Rules.{rules}
 use mathlib.Core.Path.{sym, ap, ◌∙◌}
 use mathlib.Core.Bool.{not}
-use borrow.Author.Tests.{not-true, not-false}
 use Rattle.reading.specs.Reading.{sound}
 use Rattle.reading.proofs.is_sound.Goals as goal
 
