@@ -1,5 +1,6 @@
 // A job card in the parts in which the C interface is lent it: what a step on the card leaves in them.
 #![tactic(auto)]
+
 ghost use Rattle.std.specs.Prelude.{◌≡◌};
 ghost use Rattle.card.specs.Card.{card_answer_of};
 ghost use Rattle.bay_words.specs.Words.{words};

@@ -1,6 +1,7 @@
 // The calls on a job card that is lent: "every report updates the one job card" (document 01, "Job card"). Each reads the lent card whole,
 // makes the call of `card_calls` on it, and stores the card of that.
 #![tactic(auto)]
+
 ghost use Rattle.card.specs.Card.{Updated};
 ghost use Rattle.card_calls.specs.Calls.{opened, outside_read, reported};
 

@@ -1,6 +1,7 @@
 // A job card under a new table (document 02, W14): its masks are carried over by a map of the facts, and its count and sums stay. It takes the card by
 // value and returns the next one; `migration_lent` has it on a card that is lent.
 #![tactic(auto)]
+
 ghost use Rattle.std.specs.Prelude.{◌≡◌};
 ghost use Rattle.reading.specs.Reading.{reading_of};
 ghost use Rattle.card_migration.specs.Migration.{migrated_masks};

@@ -1,6 +1,7 @@
 // A job card that is lent, under a new table: "the card must go on" (document 02, W14). It reads the lent card whole, makes the call of `card_migration`
 // on it, and stores the card of that.
 #![tactic(auto)]
+
 ghost use Rattle.card_migration.specs.Promise.{Migrates};
 
 use card::{Card, CardAnswer};

@@ -1,5 +1,4 @@
 -- After the checks of the table and the reading nothing is left to judge.
-use borrow.Author.Rules.{rules}
 use mathlib.Core.Path.{sym, ap, ◌∙◌}
 use Rattle.table.specs.Read.{table_read_of}
 use Rattle.table.proofs.ReadLaws.{headed_refused, headed_sound}

@@ -1,5 +1,4 @@
 -- The checks of the table and of the card's masks, then the job's number; what is left is booked.
-use borrow.Author.Rules.{rules}
 use Prim.Native.Nat.{ℕ}
 use mathlib.Core.Path.{◌≡◌, sym, ap, ◌∙◌}
 use mathlib.Core.List.{List}
@@ -45,32 +44,29 @@ table_told c =
     let e = rw c.masks_of-masks.ensures at c.table_for.ensures in
     headed_sound (table_for _ 0 _) (ap table_read_of (sym c.in-Sound.is) ∙ e)
 
-abbrev header_of : AtAfterNamedJob → AtAfterHeader
-header_of c = c.before
-
 -- the table is the one that was read
 table_read : (c : AtAfterHeader) → accepted (table_told c).0 ≡ read_table (bytes_of c)
 table_read c = (for_told _ 0 _ (table_told c).0 (table_told c).1).0
 
 -- the job that the report names, or 16
-job_told : (c : AtAfterNamedJob) → job_read_of c.named_job.result ≡ named_job (table_told (header_of c)).0 (start_of (header_of c).before.before).args.report.job 0
-job_told c = c.named_job.ensures (table_told (header_of c)).0 (table_read (header_of c))
+job_told : (c : AtAfterNamedJob) → job_read_of c.named_job.result ≡ named_job (table_told c.before).0 (start_of c.before.before).args.report.job 0
+job_told c = c.named_job.ensures (table_told c.before).0 (table_read c.before)
 
 pub named_job-requires : goal.named_job-requires
 named_job-requires c = ap accepted (sym (table_told c.before).2) ∙ ap headed (table_read c.before)
 
 pub returns-in-Refused : goal.returns-in-Refused
 returns-in-Refused c =
-    let e = rw c.masks_of-masks.ensures c c.table_for.ensures in
+    let e = rw c.masks_of-masks.ensures at c.table_for.ensures in
     rw c.refuse.ensures (updated_refused (report_refused _ _ _ (headed_refused (table_for _ 0 _) (ap table_read_of (sym c.in-Refused.is) ∙ e))))
 
 pub returns-in-Refused-named_job : goal.returns-in-Refused-named_job
 returns-in-Refused-named_job c =
-    let t = table_told (header_of c.before.before.before) in
+    let t = table_told c.before.before.before.before in
     rw c.refuse-in-Refused-named_job.ensures (updated_refused (report_no_job _ _ _ t.0 t.1 (ap job_read_of (sym c.in-Refused-named_job.is) ∙ job_told c.before.before.before)))
 
 pub returns-in-Named : goal.returns-in-Named
 returns-in-Named c =
-    let t = table_told (header_of c.before.before.before) in
-    let a = (start_of (header_of c.before.before.before).before.before).args in
-    rw (report_job _ a.report a.card t.0 t.1 (ap job_read_of (sym c.in-Named.is) ∙ job_told c.before.before.before)) c c.book.ensures
+    let t = table_told c.before.before.before.before in
+    let a = c.args in
+    rw (report_job _ a.report a.card t.0 t.1 (ap job_read_of (sym c.in-Named.is) ∙ job_told c.before.before.before)) at c.book.ensures

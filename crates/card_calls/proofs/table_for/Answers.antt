@@ -1,5 +1,4 @@
 -- The reader's answer stands, unless it is a table and the reading is not sound under it.
-use borrow.Author.Rules.{rules}
 use mathlib.Core.Path.{◌≡◌, sym, ap, ◌∙◌}
 use Rattle.refusal.specs.Checked.{accepted}
 use Rattle.reading.specs.Reading.{checked_at, reading_of}
@@ -30,14 +29,11 @@ start_of c = c.before.before.before
 read : (c : AtAfterHeader) → (t : Table) × (accepted t ≡ read_table (start_of c).args.table.now) × (header_of t ≡ c.in-Sound.header)
 read c = headed_sound (read_table _) (ap table_read_of (sym c.in-Sound.is) ∙ c.read_table.ensures)
 
-abbrev header_of : AtAfterCheckReading → AtAfterHeader
-header_of c = c.before
-
-checked : (c : AtAfterCheckReading) → (let a = (start_of (header_of c)).args in
-    reading_of c.check_reading.result ≡ checked_at (read (header_of c)).0.facts a.place a.reading)
+checked : (c : AtAfterCheckReading) → (let a = (start_of c.before).args in
+    reading_of c.check_reading.result ≡ checked_at (read c.before).0.facts a.place a.reading)
 checked c =
-    let a = (start_of (header_of c)).args in
-    c.check_reading.ensures ∙ ap (λ (h : Header). checked_at h.facts a.place a.reading) (sym (read (header_of c)).2)
+    let a = (start_of c.before).args in
+    c.check_reading.ensures ∙ ap (λ (h : Header). checked_at h.facts a.place a.reading) (sym (read c.before).2)
 
 pub returns-in-Refused : goal.returns-in-Refused
 returns-in-Refused c =
@@ -46,10 +42,10 @@ returns-in-Refused c =
 
 pub returns-in-Refused-check_reading : goal.returns-in-Refused-check_reading
 returns-in-Refused-check_reading c =
-    let t = read (header_of c.before.before) in
+    let t = read c.before.before.before in
     ap headed (for_bad _ _ _ t.0 t.1 (ap reading_of (sym c.in-Refused-check_reading.is) ∙ checked c.before.before))
 
 pub returns-in-Sound-check_reading : goal.returns-in-Sound-check_reading
 returns-in-Sound-check_reading c =
-    let t = read (header_of c.before.before) in
+    let t = read c.before.before.before in
     ap accepted (sym t.2) ∙ ap headed (for_sound _ _ _ t.0 t.1 (ap reading_of (sym c.in-Sound-check_reading.is) ∙ checked c.before.before))

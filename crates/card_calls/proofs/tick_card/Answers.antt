@@ -1,5 +1,4 @@
 -- The tick is that of the card's masks.
-use borrow.Author.Rules.{rules}
 use Rattle.card_calls.proofs.tick_card.Goals as goal
 
 pub returns : goal.returns
