@@ -1,6 +1,7 @@
 // The C interface to the job card: the functions of include/bay.h over a card that is lent in its parts, each over the proved function of the
 // same meaning. Every function takes every input.
 #![tactic(auto)]
+
 ghost use Rattle.std.specs.Prelude.{◌≡◌, ℕ};
 ghost use Rattle.card.specs.Card.{lateness_of, card_answer_of};
 ghost use Rattle.card_calls.specs.Calls.{opened, outside_read};

@@ -1,5 +1,6 @@
 // The C interface to a card under a new table: bay_migrate of include/bay.h, over the proved function of the same meaning. It takes every input.
 #![tactic(auto)]
+
 ghost use Rattle.std.specs.Prelude.{ℕ, ◌^◌, ◌<◌};
 ghost use Rattle.bay_card_parts.specs.CardParts.{card_of};
 ghost use Rattle.bay_migration.specs.MigrationWords.{MigrationAnswered};

@@ -1,6 +1,7 @@
 // The C interface to the table: the functions of include/bay.h that read and write one, each over the proved function of the same
 // meaning. Every function takes every input.
 #![tactic(auto)]
+
 ghost use Rattle.std.specs.Prelude.{◌≡◌, length};
 ghost use Rattle.refusal.specs.Checked.{and_then};
 ghost use Rattle.table.specs.Table.{table_bytes};

@@ -1,5 +1,6 @@
 // The C interface to the tick: bay_tick of include/bay.h, over the proved function of the same meaning. It takes every input.
 #![tactic(auto)]
+
 ghost use Rattle.std.specs.Prelude.{◌≡◌};
 ghost use Rattle.tick.specs.Answers.{ticked_of};
 ghost use Rattle.bay_words.specs.Words.{words};
