@@ -9,6 +9,7 @@ use Rattle.batch_walk.specs.Batch.{readings_of, AnswerRows, answer_rows, entries
 use Rattle.batch_walk.specs.Steps.{WalkedRows, walked_rows, going_after}
 use Rattle.batch_walk.specs.StepLaws.{rows_start, rows_none, rows_from, all_going, entry_rows, entry_going}
 use Rattle.batch_walk.specs.WalkLaws.{going_reads, walked_all, walked_on}
+use Rattle.batch_walk.proofs.Ends.{ends}
 use Rattle.batch_walk.proofs.walk_all.Goals as goal
 use Rattle.batch_walk.proofs.walk_all.Lts as Lts
 use Rattle.batch_walk.proofs.walk_all.Tie as Tie
@@ -105,25 +106,16 @@ returns-then-vehicles-eq0 c =
 pub loop-entry-init : goal.loop-entry-init
 loop-entry-init c =
     let a = (start_of c.before.before).args in (
-      (omega arith, refl, refl, omega (arith, c.if-vehicles-eq0.false)),
+      (omega arith, refl, refl, omega arith),
       rows_start (read_of c.before.before) a.vehicles (lent c.before.before) (started_of c.before.before).start_all.ensures,
       all_going (read_of c.before.before) a.vehicles,
       omega arith,
+      ends _ _ _ _ _ _ _ _ _ (lent c.before.before) _ _ (rows_start (read_of c.before.before) a.vehicles (lent c.before.before) (started_of c.before.before).start_all.ensures)
+          (started_of c.before.before).start_all.ensures (start_of c.before.before).requires.0 (all_going (read_of c.before.before) a.vehicles) (omega arith),
     )
 
 pub overflow_sub-going : goal.overflow_sub-going
 overflow_sub-going c = omega (arith, left_going c.before)
-
-pub returns-then-going-eq0 : goal.returns-then-going-eq0
-returns-then-going-eq0 c =
-    let t = turn_of c.before.before in
-    let b = begun_of t.before in
-    let a = (start_of b).args in
-    let l = t.loop-entry in
-    walked_on (read_of b) a.n a.vehicles (start_of b).requires.0 (lent b) (omega (arith, t.loop-entry-test.true))
-    (rows_from (read_of b) a.vehicles (lent b) (started_of b).start_all.ensures (l.entry + 1)
-    (entry_rows (read_of b) l.entry a.vehicles _ l.invariant.1 (met_of c.before.before).condition_at-condition.ensures (met_of c.before.before).met_at-met.ensures (asked_of c.before.before).ask_all-going.ensures))
-    (next_read c.before.before) (omega (arith, left_going c.before.before, c.if-going-eq0.true))
 
 pub loop-entry-preserved : goal.loop-entry-preserved
 loop-entry-preserved c =
@@ -131,10 +123,13 @@ loop-entry-preserved c =
     let b = begun_of t.before in
     let a = (start_of b).args in
     let l = t.loop-entry in (
-      (omega (arith, t.loop-entry-test.true), search rules, search rules, omega (arith, c.if-going-eq0.false)),
+      (omega (arith, t.loop-entry-test.true), search rules, search rules, omega arith),
       entry_rows (read_of b) l.entry a.vehicles _ l.invariant.1 (met_of c.before.before).condition_at-condition.ensures (met_of c.before.before).met_at-met.ensures (asked_of c.before.before).ask_all-going.ensures,
       omega (arith, left_going c.before.before),
       next_read c.before.before,
+      ends _ _ _ _ _ _ _ _ _ (lent b) _ _
+          (entry_rows (read_of b) l.entry a.vehicles _ l.invariant.1 (met_of c.before.before).condition_at-condition.ensures (met_of c.before.before).met_at-met.ensures (asked_of c.before.before).ask_all-going.ensures)
+          (started_of b).start_all.ensures (start_of b).requires.0 (omega (arith, left_going c.before.before)) (omega arith),
     )
 
 pub returns : goal.returns

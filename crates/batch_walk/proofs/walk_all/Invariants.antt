@@ -6,6 +6,7 @@ use lib.ListN.{length}
 use Rattle.flat.specs.TreeBytes.{tree_entries}
 use Rattle.batch_walk.specs.Batch.{readings_of, answer_rows, entries_read}
 use Rattle.batch_walk.specs.Steps.{walked_rows, rows_after, going_after}
+use Rattle.batch_walk.proofs.Ends.{Ends}
 use Rattle.batch_walk.proofs.walk_all.Given as goal
 
 abbrev pub invariant-loop-entry : goal.invariant-loop-entry
@@ -14,6 +15,7 @@ invariant-loop-entry l =
     × (answer_rows l.statuses l.values ≡ rows_after (walked_rows l.conditions l.absences l.actions l.held l.unread) l.entry l.vehicles (answer_rows l.initial.statuses l.initial.values))
     × (l.going ≡ going_after (walked_rows l.conditions l.absences l.actions l.held l.unread) l.entry l.vehicles)
     × (l.entry ≤ entries_read (tree_entries l.conditions l.absences l.actions l.n) (readings_of l.held l.unread l.vehicles))
+    × Ends l.conditions l.absences l.actions l.held l.unread l.n l.vehicles l.entry l.going (answer_rows l.fn.statuses l.fn.values) (answer_rows l.statuses l.values)
 
 abbrev pub decreases-loop-entry : goal.decreases-loop-entry
 decreases-loop-entry l = l.n - l.entry
