@@ -1,5 +1,6 @@
 // What is judged before a row of vehicles is ticked on a list: each reading, the list's length, and each of its entries (document 02, W4).
 #![tactic(auto)]
+
 ghost use Rattle.std.specs.Prelude.{◌≡◌, ◌≤◌, length};
 ghost use Rattle.refusal.specs.Checked.{checked_each};
 ghost use Rattle.planning.specs.Columns.{max_entries};

@@ -1,5 +1,6 @@
 // The tick of a row of vehicles on one list (document 02, W4): what is lent is judged, then the list is walked once for all of them.
 #![tactic(auto)]
+
 ghost use Rattle.std.specs.Prelude.{◌≡◌, ◌≤◌, length};
 ghost use Rattle.flat.specs.TreeBytes.{tree_entries};
 ghost use Rattle.batch_walk.specs.Batch.{readings_of, answer_rows};

@@ -217,7 +217,7 @@ module _ (conditions absences actions : List ℕ) where
         elim (dec_le i n) [
           | yes k ↦
               let before = after_stays i n k e in
-              before ∙ sym (next_stays _ _ (answer_after conditions absences actions r n) (rw before at e))
+              before ∙ sym (next_stays (met_at n (get_or actions n 0)) (evaluated r (condition_at conditions absences n)) (answer_after conditions absences actions r n) (rw before at e))
           | no k ↦ let last : i ≡ suc n = omega arith in ap (answer_after conditions absences actions r) last
         ]
 

@@ -2,6 +2,7 @@
 // entries before it, but for those that are read to lack a fact of its first mask. A vehicle's answer so far stands in two lent rows; Failure is the
 // mark of one that goes on.
 #![tactic(auto)]
+
 ghost use Rattle.std.specs.Prelude.{◌≡◌, ◌≤◌, ◌<◌, length, get_or};
 ghost use Rattle.tree.specs.declared.Status.TheVariants.{Failure};
 ghost use Rattle.tree.specs.StatusNumbers.{status_number};

@@ -1,6 +1,7 @@
 // The C interface to the tick of a row of vehicles: bay_tick_all of include/bay.h, over the proved function of the same meaning. It takes every
 // input.
 #![tactic(auto)]
+
 ghost use Rattle.std.specs.Prelude.{◌≡◌};
 ghost use Rattle.batch_walk.specs.Batch.{answer_rows};
 ghost use Rattle.batch_tick.specs.BatchTick.{batch_ticked_of};

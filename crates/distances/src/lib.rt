@@ -1,5 +1,6 @@
 // The distances of all states of a table (document 02, W13).
 #![tactic(auto)]
+
 ghost use Rattle.std.specs.Prelude.{◌≡◌, ◌≤◌, ◌^◌, length};
 ghost use Rattle.refusal.specs.Checked.{accepted};
 ghost use Rattle.conditions.specs.Condition.{plain};

@@ -1,5 +1,6 @@
 // What is told of a list that is recovered from a tree, and the copy of it (document 02, W7).
 #![tactic(auto)]
+
 ghost use Rattle.std.specs.Prelude.{◌≡◌, [], if◌then◌else◌};
 ghost use Rattle.refusal.specs.Numbers.{number_of};
 ghost use Rattle.expander.specs.Expands.{columns};

@@ -1,5 +1,6 @@
 // What the bytes of a tree show of the list that they were written from (document 02, W7).
 #![tactic(auto)]
+
 ghost use Rattle.std.specs.Prelude.{◌≡◌, false, ◌≤◌, length};
 ghost use Rattle.table.specs.Read.{headed, table_read_of};
 ghost use Rattle.flat.specs.TreeBytes.{tree_size};
@@ -58,6 +59,7 @@ pub fn entries_shown(paired: bool, size: usize) -> usize
 }
 
 // The mask of the last condition in the tree of n entries.
+#[tactic(auto, using(crate::specs::PartLaws::mask_there))]
 pub fn last_mask(tree: &[u8], n: usize) -> u64
     requires { (1 ≤ n) × (tree_size false n ≡ length tree.now) }
     ensures { result ≡ last_mask tree.now }

@@ -17,19 +17,10 @@ use Rattle.planner.proofs.way_seconds.Reads as Reads
 abbrev AtInLoop : Type 0
 AtInLoop = Lts.In-loop Reads.Pre Reads.Post goal.the-invariant-loop-i goal.the-decreases-loop-i
 
-abbrev AtStart : Type 0
-AtStart = Lts.Start Reads.Pre Reads.Post goal.the-invariant-loop-i goal.the-decreases-loop-i
-
 -- ---- a turn of the loop
 
 abbrev Turn : Type 0
 Turn = AtInLoop
-
-abbrev Entered : Type 0
-Entered = AtStart
-
-abbrev start_of : Turn → Entered
-start_of c = c.before.before
 
 -- the entry in hand has an action of the row, and an earlier parent; its seconds are those of the action and of its parent
 abbrev entry_here : Turn → ℕ
@@ -38,20 +29,20 @@ entry_here c = c.loop-i.i
 later : (c : Turn) → 0 < entry_here c
 later c = omega (arith, c.loop-i-test.true)
 
-inside : (c : Turn) → entry_here c < suc (start_of c).args.last
+inside : (c : Turn) → entry_here c < suc c.args.last
 inside c = omega (arith, c.loop-i.invariant.0)
 
-known : (c : Turn) → get_or (start_of c).args.actions.now (entry_here c) 0 < length (start_of c).args.seconds.now
-known c = link_known (start_of c).requires.0 (entry_here c) (later c) (inside c)
+known : (c : Turn) → get_or c.args.actions.now (entry_here c) 0 < length c.args.seconds.now
+known c = link_known c.requires.0 (entry_here c) (later c) (inside c)
 
-earlier : (c : Turn) → get_or (start_of c).args.parents.now (entry_here c) 0 < entry_here c
-earlier c = link_earlier (start_of c).requires.0 (entry_here c) (later c) (inside c)
+earlier : (c : Turn) → get_or c.args.parents.now (entry_here c) 0 < entry_here c
+earlier c = link_earlier c.requires.0 (entry_here c) (later c) (inside c)
 
-step : (c : Turn) → let a = (start_of c).args in
+step : (c : Turn) → let a = c.args in
     row_seconds a.seconds.now (path (linked a.actions.now a.parents.now) (entry_here c))
     ≡ get_or a.seconds.now (get_or a.actions.now (entry_here c) 0) 0
     + row_seconds a.seconds.now (path (linked a.actions.now a.parents.now) (get_or a.parents.now (entry_here c) 0))
-step c = seconds_step (start_of c).requires.0 (start_of c).args.seconds.now (entry_here c) (later c) (inside c)
+step c = seconds_step c.requires.0 c.args.seconds.now (entry_here c) (later c) (inside c)
 
 pub offset_bounds-seconds-job : goal.offset_bounds-seconds-job
 offset_bounds-seconds-job c = omega (arith, (c.shared_slice_known-1.given (entry_here c.before.before)).fits)
@@ -61,9 +52,9 @@ bounds-seconds-job c = known c.before.before.before
 
 pub overflow_add-sum : goal.overflow_add-sum
 overflow_add-sum c =
-    let a = (start_of c.before.before.before).args in
-    let most = way_most a.seconds.now (start_of c.before.before.before).requires.1 a.actions.now a.parents.now a.last in
-    omega (arith, c.loop-i.invariant.1, step c.before.before.before, (start_of c.before.before.before).requires.0.few, most)
+    let a = c.before.before.before.args in
+    let most = way_most a.seconds.now c.before.before.before.requires.1 a.actions.now a.parents.now a.last in
+    omega (arith, c.loop-i.invariant.1, step c.before.before.before, c.before.before.before.requires.0.few, most)
 
 pub loop-i-smaller : goal.loop-i-smaller
 loop-i-smaller c = earlier c.before.before.before.before
