@@ -1,6 +1,7 @@
 // The C interface to the recovery of a list from its tree: bay_recover_list of include/bay.h, over the proved function of the same meaning. It takes every
 // input.
 #![tactic(auto)]
+
 ghost use Rattle.std.specs.Prelude.{◌≡◌, []};
 ghost use Rattle.expander.specs.Expands.{columns};
 ghost use Rattle.builder.specs.Plan.{listed_of};

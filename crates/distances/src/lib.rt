@@ -38,6 +38,7 @@ fn refuse(reason: Reason) -> Measured
 }
 
 // Has a row of this length a number for each state, and none more?
+#[tactic(auto, using(crate::specs::MeasureLaws::length_other, crate::specs::MeasureLaws::length_fits, crate::specs::MeasureLaws::facts_many))]
 fn check_row(facts: u8, length: usize) -> Measured
     ensures { measured_of result ≡ checked_row facts length }
 {
