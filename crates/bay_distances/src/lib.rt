@@ -1,6 +1,7 @@
 // The C interface to the distances of all states: bay_measure_distances of include/bay.h, over the proved function of the same meaning. It takes every
 // input.
 #![tactic(auto)]
+
 ghost use Rattle.std.specs.Prelude.{◌≡◌};
 ghost use Rattle.distances.specs.Measure.{measured_of};
 ghost use Rattle.bay_words.specs.Words.{words};

@@ -2,6 +2,7 @@
 // condition that the tree shows, as the start. It is planned into tables that no caller sees, the bytes of its tree are compared, and only then is anything
 // written that is lent.
 #![tactic(auto)]
+
 ghost use Rattle.std.specs.Prelude.{◌≡◌, false, []};
 ghost use Rattle.refusal.specs.Checked.{accepted, and_then};
 ghost use Rattle.table.specs.Table.{Table};

@@ -1,7 +1,6 @@
 -- `distances::check_row` meets its contract: 25 first, then 26.
 use native.Mathlib.Omega.{arith}
 use mathlib.Core.Path.{ap, ◌∙◌}
-use borrow.Author.Rules.{rules}
 use Rattle.distances.specs.Measure.{measured_of}
 use Rattle.distances.specs.MeasureLaws.{facts_many, length_fits, length_other}
 use Rattle.distances.proofs.check_row.Goals as goal

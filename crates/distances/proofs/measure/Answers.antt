@@ -1,7 +1,6 @@
 -- `distances::measure` meets its contract: the table's own stops first, then the row's, and then every state has its distance.
 use mathlib.Core.Path.{◌≡◌, sym, ap, ◌∙◌}
 use lib.ListN.{length}
-use borrow.Author.Rules.{rules}
 use Rattle.refusal.specs.Checked.{accepted}
 use Rattle.numbers.specs.Numbers.{AreBytes}
 use Rattle.table.specs.declared.Header.{Header}

@@ -4,7 +4,6 @@ use mathlib.Core.Path.{sym}
 use Prim.Native.Nat.{◌≤◌}
 use lib.Pow.{pow_pos}
 use lib.Seq.{length-take-le}
-use borrow.Author.Rules.{rules}
 use Rattle.numbers.specs.Numbers.{AreBytes}
 use Rattle.table.specs.Read.{read_table}
 use Rattle.table.proofs.ReadLaws.{headed_sound}
