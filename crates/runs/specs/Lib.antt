@@ -1,4 +1,5 @@
 -- definitions
 pub mod Runs
 pub mod Joint
+
 -- computations
