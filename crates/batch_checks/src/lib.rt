@@ -52,6 +52,7 @@ pub fn check_readings(facts: u8, vehicles: usize, held: &[u64], unread: &[u64]) 
 }
 
 // Are the operands of an entry in range? The job of entry 0 is not looked at.
+#[tactic(auto, unfolding(crate::specs::Checks::entry_fits))]
 fn entry_fits(facts: u8, jobs: usize, i: usize, condition: Condition, job: u8) -> bool
     ensures { result ≡ entry_fits facts jobs i condition job }
 {
@@ -100,6 +101,7 @@ fn max_entries(paired: bool) -> usize
 }
 
 // A list of n entries.
+#[tactic(auto, using(crate::specs::CheckLaws::list_none, crate::specs::CheckLaws::list_long, crate::specs::CheckLaws::list_sized))]
 pub fn check_list(
     header: Header,
     n: usize,

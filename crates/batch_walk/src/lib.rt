@@ -60,6 +60,7 @@ fn start_all(vehicles: usize, statuses: &mut [u8], values: &mut [u64])
 }
 
 // Does a vehicle go on, and is it not read to lack a fact of an entry's first mask?
+#[tactic(auto, unfolding(crate::specs::Steps::may_meet))]
 fn may_meet(present: u64, v: usize, held: &[u64], unread: &[u64], statuses: &[u8]) -> bool
     requires { (v < length held.now) × (v < length unread.now) × (v < length statuses.now) }
     ensures { result ≡ may_meet present (reading_at held.now unread.now v) (get_or statuses.now v 0) }
