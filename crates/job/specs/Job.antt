@@ -1,6 +1,6 @@
 -- One job, and its bytes: document 01, "Commands"; document 02, W10.
 -- Definitions only.
-use Rattle.std.specs.Prelude.{ℕ, ◌+◌, ◌^◌, ◌<◌, ◌≡◌, Bool, true, false, List, [], ◌∷◌, ◌++◌, eqb, length, get_or}
+use Rattle.std.specs.Prelude.{ℕ, ◌+◌, ◌^◌, ◌<◌, ◌≡◌, Bool, true, false, List, ◌∷◌, ◌++◌, eqb, length, get_or}
 use Rattle.commands.specs.Commands.{JOB, PAIRED_JOB, OPERANDS_AT, ABSENT_AT, ADDS_AT, PAIRED_ADDS_AT, MASK_WIDTH, Past}
 use Rattle.numbers.specs.Numbers.{to_bytes, number_at}
 use Rattle.conditions.specs.declared.Action.{Action}

@@ -123,6 +123,7 @@ fn effects_overlap(job: Job) -> bool
 }
 
 // A job's masks against the number of facts and against each other, then its seconds; `at` is where its command stands.
+#[tactic(auto, using(crate::proofs::ValidationLaws::validated_out, crate::proofs::ValidationLaws::validated_overlap, crate::proofs::ValidationLaws::validated_long, crate::proofs::ValidationLaws::validated_contradicts, crate::proofs::ValidationLaws::validated_sound))]
 pub fn validate_job(facts: u8, at: usize, job: Job) -> Validated
     ensures { validated_of job result ≡ validated_job facts at job }
 {

@@ -1,4 +1,3 @@
 -- definitions
 pub mod Runs
 pub mod Joint
--- computations

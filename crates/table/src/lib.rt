@@ -103,6 +103,7 @@ fn refused(reason: Reason, place: usize) -> TableRead
 }
 
 // END at an offset, and nothing after it.
+#[tactic(auto, using(crate::proofs::ReadLaws::end_inside, crate::proofs::ReadLaws::end_refused, crate::proofs::ReadLaws::end_whole, crate::proofs::ReadLaws::end_more))]
 fn read_end(s: &[u8], header: Header, at: usize) -> TableRead
     ensures { (t : Table) → header_of t ≡ header → table_read_of result ≡ headed (read_end s.now t at) }
 {

@@ -13,7 +13,7 @@ use Rattle.licences.specs.declared.Fitter.TheVariants.{First, Second}
 use Rattle.licences.specs.Licences.{checked_licences, owns}
 use Rattle.table.specs.Table.{Table}
 use Rattle.table.specs.Read.{read_table}
-use Rattle.planning.specs.Expansion.{Entry, entries}
+use Rattle.planning.specs.Expansion.{Entry}
 use Rattle.expander.specs.declared.Until.TheVariants.{Covers}
 use Rattle.expander.specs.Expands.{Columns, room, held}
 use Rattle.builder.specs.Finish.{Finish, no_plan_of, list_alone, list_and_trees, with_trees, WritesTrees}

@@ -51,6 +51,7 @@ fn accept(status: Status) -> Ticked
 }
 
 // END at an offset, and nothing after it.
+#[tactic(auto, using(tree::specs::ReadTreeLaws::end_missing, tree::specs::ReadTreeLaws::end_unknown, tree::specs::ReadTreeLaws::end_cut, tree::specs::ReadTreeLaws::end_other, tree::specs::ReadTreeLaws::end_more, tree::specs::ReadTreeLaws::end_whole, crate::specs::AnswersLaws::answer_ticked))]
 fn read_end(tree: &[u8], status: Status, at: usize) -> Ticked
     ensures { (t : Tree) (f : Tree → Status) → f t ≡ status → ticked_of result ≡ answered_by f (read_end tree.now t at) }
 {

@@ -15,7 +15,6 @@ use Rattle.tree.specs.declared.Kind.TheVariants.{Fallback, Sequence}
 use Rattle.tree.specs.declared.Leaf.{Leaf}
 use Rattle.tree.specs.declared.Leaf.TheVariants.{Condition, Action, Wait}
 use Rattle.tree.specs.declared.NodeRead.{NodeRead}
-use Rattle.tree.specs.Tree as Tree
 use Rattle.tree.specs.Tree.{Tree, Row, node, one, more}
 
 abbrev pub max_tree_bytes : ℕ

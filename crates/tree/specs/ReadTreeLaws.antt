@@ -22,7 +22,6 @@ use Rattle.conditions.specs.Condition.{plain}
 use Rattle.tree.specs.declared.Kind.{Kind}
 use Rattle.tree.specs.declared.Kind.TheVariants.{Fallback, Sequence}
 use Rattle.tree.specs.declared.Leaf.TheVariants.{Condition, Action, Wait}
-use Rattle.tree.specs.Tree as Tree
 use Rattle.tree.specs.Tree.{Tree, Row, node, one, more}
 use Rattle.tree.specs.ReadTree.{max_children, Node, branch, leaf, whole_in, whole_at, kind_byte, count_width, count_at, child_count, mask_at, pair_at, operands_of, node_at, read_end, in_range, read_row, read_operands, read_node}
 

@@ -56,28 +56,28 @@ returns-then-capacity-eq0 c =
 pub bounds-conditions-0 : goal.bounds-conditions-0
 bounds-conditions-0 c =
     let lent = columns c.args.conditions.now c.args.absences.now c.args.actions.now c.args.parents.now c.args.depths.now in
-    omega (arith, (holds_none lent c.requires c.capacity_of-capacity.ensures).conditions.roomy, c.if-capacity-eq0.false)
+    omega (arith, (holds_none lent c.requires c.capacity_of-capacity.ensures).conditions.roomy)
 
 pub bounds-actions-0 : goal.bounds-actions-0
 bounds-actions-0 c =
     let lent = columns c.args.conditions.now c.args.absences.now c.args.actions.now c.args.parents.now c.args.depths.now in
-    omega (arith, (holds_none lent c.requires c.capacity_of-capacity.ensures).actions.roomy, c.if-capacity-eq0.false)
+    omega (arith, (holds_none lent c.requires c.capacity_of-capacity.ensures).actions.roomy)
 
 pub bounds-parents-0 : goal.bounds-parents-0
 bounds-parents-0 c =
     let lent = columns c.args.conditions.now c.args.absences.now c.args.actions.now c.args.parents.now c.args.depths.now in
-    omega (arith, (holds_none lent c.requires c.capacity_of-capacity.ensures).parents.roomy, c.if-capacity-eq0.false)
+    omega (arith, (holds_none lent c.requires c.capacity_of-capacity.ensures).parents.roomy)
 
 pub bounds-depths-0 : goal.bounds-depths-0
 bounds-depths-0 c =
     let lent = columns c.args.conditions.now c.args.absences.now c.args.actions.now c.args.parents.now c.args.depths.now in
-    omega (arith, (holds_none lent c.requires c.capacity_of-capacity.ensures).depths.roomy, c.if-capacity-eq0.false)
+    omega (arith, (holds_none lent c.requires c.capacity_of-capacity.ensures).depths.roomy)
 
 pub returns-then-ends_list : goal.returns-then-ends_list
 returns-then-ends_list c =
     let lent = columns c.args.conditions.now c.args.absences.now c.args.actions.now c.args.parents.now c.args.depths.now in
     let room_is = c.capacity_of-capacity.ensures in
-    let some : 0 < c.capacity_of-capacity.result = omega (arith, c.if-capacity-eq0.false) in
+    let some : 0 < c.capacity_of-capacity.result = omega arith in
     let paired = ltb 0 (length c.args.absent.now) in
     let A = actions_of c.args.needs.now c.args.absent.now c.args.adds.now c.args.deletes.now in
     let root = plain c.args.goal in
@@ -89,7 +89,7 @@ pub entries-init : goal.entries-init
 entries-init c =
     let lent = columns c.args.conditions.now c.args.absences.now c.args.actions.now c.args.parents.now c.args.depths.now in
     let room_is = c.capacity_of-capacity.ensures in
-    let some : 0 < c.capacity_of-capacity.result = omega (arith, c.if-capacity-eq0.false) in
+    let some : 0 < c.capacity_of-capacity.result = omega arith in
     let paired = ltb 0 (length c.args.absent.now) in
     let A = actions_of c.args.needs.now c.args.absent.now c.args.adds.now c.args.deletes.now in
     let root = plain c.args.goal in (
@@ -157,7 +157,7 @@ returns-then-e-n c =
     let room_is = c.capacity_of-capacity.ensures in
     let I = c.entries.invariant.1 in
     expands room_is (X.Exhausted _)
-    (entries_held lent c.requires room_is (omega (arith, c.if-capacity-eq0.false)) c.args.goal c.set_mask.ensures I)
+    (entries_held lent c.requires room_is (omega arith) c.args.goal c.set_mask.ensures I)
     (exhausts I c.if-e-n.true)
 
 pub returns-then-n-capacity : goal.returns-then-n-capacity
@@ -173,7 +173,7 @@ returns-then-n-capacity c =
     new_wanted J.counted c.actions-test.true c.action_at-action.ensures c.if-is_relevant.ensures c.regress-new.ensures
     c.if-is_consistent.ensures c.in-Nowhere.ensures.answer in
     expands room_is (X.Full _)
-    (holds_on (entries_held lent c.requires room_is (omega (arith, c.if-capacity-eq0.false)) c.args.goal c.set_mask.ensures I) J.holds J.grown)
+    (holds_on (entries_held lent c.requires room_is (omega arith) c.args.goal c.set_mask.ensures I) J.holds J.grown)
     (fills J wanted c.if-n-capacity.true)
 
 pub returns-then-ends_list-2 : goal.returns-then-ends_list-2
@@ -192,6 +192,6 @@ returns-then-ends_list-2 c =
     as_stored (λ (u : Columns). Expands paired A (plain c.args.goal) c.args.until lent u (X.Covered (x.n + 1))) t x.n c.regress-new.result x.next
     c.entries.e (get_or c.entries.depths c.entries.e 0 + 1) c.set_mask-in-Nowhere.ensures
     (expands room_is (X.Covered (x.n + 1))
-    (holds_on (entries_held lent c.requires room_is (omega (arith, c.if-capacity-eq0.false)) c.args.goal c.set_mask.ensures I)
+    (holds_on (entries_held lent c.requires room_is (omega arith) c.args.goal c.set_mask.ensures I)
     (holds_new J wanted c.if-n-capacity.false) (omega (arith, J.grown)))
     (ends J wanted c.if-n-capacity.false (holds _ (sym c.if-ends_list-2.ensures))))

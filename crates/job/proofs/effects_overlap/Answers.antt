@@ -1,5 +1,4 @@
 -- `job::effects_overlap` meets its contract: each test of the code is one of the definition's, in its order.
-use borrow.Author.Rules.{rules}
 use Rattle.job.proofs.effects_overlap.Goals as goal
 
 pub returns-then-share_fact : goal.returns-then-share_fact

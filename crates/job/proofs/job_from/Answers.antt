@@ -3,7 +3,6 @@ use Prim.Native.Nat.{ℕ, ◌+◌}
 use native.Mathlib.Omega.{arith}
 use mathlib.Core.Path.{ap, ◌∙◌}
 use mathlib.Core.Bool.{true}
-use borrow.Author.Rules.{rules}
 use Rattle.commands.specs.Commands.{PAIRED_ADDS_AT, PAIRED_JOB_SIZE}
 use Rattle.job.specs.Job.{job_with}
 use Rattle.job.proofs.JobLaws.{from_pair, from_plain, from_byte}

@@ -2,7 +2,6 @@
 use Prim.Native.Nat.{◌+◌}
 use native.Mathlib.Omega.{arith}
 use mathlib.Core.Path.{◌≡◌, refl}
-use borrow.Author.Rules.{rules}
 use Rattle.commands.specs.Commands.{EFFECTS_WIDTH}
 use Rattle.job.proofs.JobLaws.{with_parts}
 use Rattle.job.proofs.job_with.Goals as goal

@@ -1,5 +1,4 @@
 -- `job::masks_in_range` meets its contract: the one test of all masks is the definition's four.
-use borrow.Author.Rules.{rules}
 use Rattle.job.proofs.ValidationLaws.{all_within}
 use Rattle.job.proofs.masks_in_range.Goals as goal
 

@@ -1,5 +1,4 @@
 -- `table::command_due` meets its contract: each thing that can stand at the offset is a clause of `due_in`.
-use borrow.Author.Rules.{rules}
 use mathlib.Core.Path.{sym, ap, ◌∙◌}
 use Rattle.table.specs.Read.{due_of}
 use Rattle.table.proofs.ReadLaws.{due_missing, due_unknown, due_cut, due_cut_other, due_whole, due_other}

@@ -1,5 +1,4 @@
 -- `table::is_allowed` meets its contract, stage by stage.
-use borrow.Author.Rules.{rules}
 use borrow.Author.Tests.{eq-eqb, ne_eqb}
 use Rattle.table.proofs.is_allowed.Goals as goal
 

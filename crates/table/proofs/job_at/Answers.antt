@@ -1,10 +1,7 @@
 -- `table::job_at` meets its contract. The loop's invariant: the walk stands where the next job does (`job_here`). The measure is the jobs that are
 -- left to pass.
-use borrow.Author.Rules.{rules}
 use native.Mathlib.Omega.{arith}
 use mathlib.Core.Path.{◌≡◌, sym, ap, ◌∙◌}
-use Prim.Native.Nat.{◌-◌, ◌≤◌}
-use Rattle.table.specs.Table.{offset_of}
 use Rattle.table.specs.Read.{read_table, jobs_of}
 use Rattle.table.proofs.OffsetLaws.{JobHere, first_offset, job_here}
 use Rattle.table.proofs.job_at.Goals as goal

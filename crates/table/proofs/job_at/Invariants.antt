@@ -1,12 +1,9 @@
 -- `table::job_at` meets its contract. The loop's invariant: the walk stands where the next job does (`job_here`). The measure is the jobs that are
 -- left to pass.
-use borrow.Author.Rules.{rules}
-use native.Mathlib.Omega.{arith}
-use mathlib.Core.Path.{◌≡◌, sym, ap, ◌∙◌}
+use mathlib.Core.Path.{◌≡◌}
 use Prim.Native.Nat.{◌-◌, ◌≤◌}
 use Rattle.table.specs.Table.{offset_of}
 use Rattle.table.specs.Read.{read_table, jobs_of}
-use Rattle.table.proofs.OffsetLaws.{JobHere, first_offset, job_here}
 use Rattle.table.proofs.job_at.Given as goal
 
 abbrev pub invariant-loop-i : goal.invariant-loop-i

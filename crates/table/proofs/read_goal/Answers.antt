@@ -1,6 +1,5 @@
 -- `table::read_goal` meets its contract, for whatever jobs stood before.
 use Prim.Native.Nat.{◌+◌}
-use borrow.Author.Rules.{rules}
 use mathlib.Core.Path.{sym, ap, ◌∙◌}
 use Rattle.masks.specs.Sets.{within}
 use Rattle.table.specs.Read.{headed, table_read_of}

@@ -1,5 +1,4 @@
 -- `table::read_job` meets its contract: the table is read first, then the number is looked at.
-use borrow.Author.Rules.{rules}
 use mathlib.Core.Path.{sym, ap, ◌∙◌}
 use Rattle.table.specs.Read.{read_table, table_read_of}
 use Rattle.table.proofs.ReadLaws.{headed_refused, headed_sound}

@@ -1,16 +1,14 @@
 -- `table::read_jobs` meets its contract. The loop's invariant: reading on from here, with the jobs that were passed, gives what reading from the first gives.
 -- The measure is the number of jobs that may still follow.
-use borrow.Author.Rules.{rules}
 use native.Mathlib.Omega.{arith}
 use mathlib.Core.Path.{◌≡◌, refl, sym, ap, ◌∙◌}
-use Prim.Native.Nat.{◌+◌, ◌-◌, ◌≤◌, suc}
+use Prim.Native.Nat.{◌+◌, ◌-◌, suc}
 use mathlib.Core.Bool.{Bool, ◌||◌}
-use lib.ListN.{length, length-append}
-use mathlib.Core.List.{List, [], ◌∷◌, ◌++◌}
-use Rattle.job.specs.declared.Job.{Job}
+use lib.ListN.{length-append}
+use mathlib.Core.List.{[], ◌∷◌, ◌++◌}
 use Rattle.job.specs.Validation.{validated_job, validated_of}
 use Rattle.table.specs.Table.{max_jobs, has_pair}
-use Rattle.table.specs.Read.{read_jobs, due_of, headed, table_read_of}
+use Rattle.table.specs.Read.{due_of, headed, table_read_of}
 use Rattle.table.proofs.PairLaws.{pair_snoc}
 use Rattle.table.proofs.ReadLaws.{goal_inside, job_whole, jobs_refused, jobs_goal, jobs_full, jobs_bad, jobs_more}
 use Rattle.table.proofs.read_jobs.Goals as goal

@@ -1,6 +1,5 @@
 -- `table::read_table` meets its contract: FACTS, its range, then the rest.
 use native.Mathlib.Omega.{arith}
-use borrow.Author.Rules.{rules}
 use mathlib.Core.Path.{sym, ap, ◌∙◌}
 use Rattle.commands.specs.Commands.{OPERANDS_AT}
 use Rattle.table.specs.Read.{due_of, headed, table_read_of}

@@ -3,7 +3,6 @@ use native.Mathlib.Omega.{arith}
 use mathlib.Core.Path.{◌≡◌, sym, ap, ◌∙◌}
 use mathlib.Core.List.{List, []}
 use lib.ListN.{length}
-use borrow.Author.Rules.{rules}
 use Rattle.base.specs.Lists.{length_prefix}
 use Rattle.refusal.specs.Checked.{refused}
 use Rattle.conditions.specs.declared.Condition.{Condition}
@@ -70,7 +69,7 @@ first_of c = c.before.before.before.before
 pub returns-then-first-first_bytes : goal.returns-then-first-first_bytes
 returns-then-first-first_bytes c =
     let a = (start_of c.before.before.before).args in
-    team_short a.licences.now a.paired (list_of c.before.before.before) (of_each a.first.now a.second.now) _ First (omega (arith, first_size c.before.before.before, c.if-first-first_bytes.true))
+    team_short a.licences.now a.paired (list_of c.before.before.before) (of_each a.first.now a.second.now) _ First (omega (arith, first_size c.before.before.before))
     (ap team_of c.too_short.ensures ∙ ap (refused 12) (sym (count c.before.before.before)))
 
 pub returns-then-second-second_bytes : goal.returns-then-second-second_bytes
@@ -83,7 +82,7 @@ pub write_tree-requires : goal.write_tree-requires
 write_tree-requires c =
     let k = measured_of c.before.before in
     let p = (start_of k).requires in
-    (p.0, p.1, p.2, omega (arith, first_size k, c.if-first-first_bytes.false))
+    (p.0, p.1, p.2, omega (arith, first_size k))
 
 pub write_tree-requires-2 : goal.write_tree-requires-2
 write_tree-requires-2 c =

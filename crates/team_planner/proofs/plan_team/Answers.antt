@@ -1,6 +1,5 @@
 -- `team_planner::plan_team` meets its contract: each check of the code is the definition's, in its order, and every plan keeps its promises.
 use mathlib.Core.Path.{◌≡◌, refl, sym, ap, ◌∙◌}
-use borrow.Author.Rules.{rules}
 use Rattle.refusal.specs.Checked.{accepted}
 use Rattle.numbers.specs.Numbers.{AreBytes}
 use Rattle.table.specs.Table.{Table}

@@ -1,6 +1,5 @@
 -- `team_planner::size_for` meets its contract: the tree's size is counted by those of its leaves.
 use mathlib.Core.List.{[]}
-use borrow.Author.Rules.{rules}
 use Rattle.base.specs.Lists.{length_prefix}
 use Rattle.licences.specs.Licences.{owns}
 use Rattle.planning.specs.Columns.{entry_at}

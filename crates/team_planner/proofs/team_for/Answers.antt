@@ -1,7 +1,6 @@
 -- `team_planner::team_for` meets its contract: the table first, then the licences, then the start.
 use mathlib.Core.Path.{◌≡◌, sym, ap, ◌∙◌}
 use lib.ListN.{length}
-use borrow.Author.Rules.{rules}
 use Rattle.refusal.specs.Checked.{accepted}
 use Rattle.reading.specs.Reading.{checked_start, reading_of}
 use Rattle.licences.specs.Licences.{checked_licences, licences_of}

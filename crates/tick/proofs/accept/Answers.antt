@@ -1,5 +1,4 @@
 -- `tick::accept` meets its contract: each status has its answer.
-use borrow.Author.Rules.{rules}
 use Rattle.tick.proofs.accept.Goals as goal
 
 pub returns-in-Running : goal.returns-in-Running

@@ -2,7 +2,6 @@
 use Rattle.tick.specs.AnswersLaws.{answers_refused, answers_read}
 use Rattle.table.specs.Read.{table_read_of}
 use mathlib.Core.Path.{refl, sym, ap, ◌∙◌}
-use borrow.Author.Rules.{rules}
 use Rattle.tick.proofs.tick.Goals as goal
 
 pub returns-in-Refused : goal.returns-in-Refused

@@ -1,6 +1,5 @@
 -- `tick::tick_checked` meets its contract: the reading comes before the tree; that a settled answer stands for every completion follows
 -- from the definition.
-use borrow.Author.Rules.{rules}
 use mathlib.Core.Path.{sym, ap, ◌∙◌}
 use Rattle.reading.specs.Reading.{reading_of}
 use Rattle.tick.specs.AnswersLaws.{tick_refused, tick_passed, answers_under}

@@ -4,7 +4,6 @@ use Rattle.tick.specs.Answers.{ticked_of}
 use Rattle.tick_walk.specs.Walk.{walk_of}
 use Rattle.tree.specs.Tick.{continue_table}
 use mathlib.Core.Path.{sym, ap, ◌∙◌}
-use borrow.Author.Rules.{rules}
 use Rattle.tick.proofs.tick_tree.Goals as goal
 
 pub returns-then-tree-gt-MAX_TREE_BYTES : goal.returns-then-tree-gt-MAX_TREE_BYTES

@@ -1,7 +1,6 @@
 -- `tree::answer` meets its contract, by the kind of leaf.
 use Rattle.tree.specs.Tick.{status_of}
 use mathlib.Core.Path.{ap, ◌∙◌}
-use borrow.Author.Rules.{rules}
 use Rattle.tree.proofs.answer.Goals as goal
 
 pub returns-in-Condition : goal.returns-in-Condition

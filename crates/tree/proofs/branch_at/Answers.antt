@@ -6,7 +6,6 @@ use native.Mathlib.Omega.{arith}
 use Rattle.commands.specs.Commands.{FALLBACK_SIZE}
 use Prim.Native.Nat.{◌+◌}
 use lib.ListN.{length}
-use borrow.Author.Rules.{rules}
 use Rattle.tree.proofs.branch_at.Goals as goal
 
 pub is_cut-requires : goal.is_cut-requires
@@ -29,10 +28,10 @@ returns-then-count-eq0 c =
 pub returns-then-count-gt-MAX_CHILDREN : goal.returns-then-count-gt-MAX_CHILDREN
 returns-then-count-gt-MAX_CHILDREN c =
     let whole = ltb-false _ _ (sym c.is_cut.ensures ∙ c.if-is_cut.false) in
-    branch_many _ _ c.requires.0 c.args.kind c.requires.1 whole (λ e. c.if-count-eq0.false (c.read_u16-count.ensures ∙ e)) (rw c.read_u16-count.ensures at c.if-count-gt-MAX_CHILDREN.true)
+    branch_many _ _ c.requires.0 c.args.kind c.requires.1 whole (λ e. omega (arith, c.read_u16-count.ensures, e)) (rw c.read_u16-count.ensures at c.if-count-gt-MAX_CHILDREN.true)
 
 pub returns : goal.returns
 returns c =
     let whole = ltb-false _ _ (sym c.is_cut.ensures ∙ c.if-is_cut.false) in
     rw c.read_u16-count.ensures
-    (branch_counted _ _ c.requires.0 c.args.kind c.requires.1 whole (λ e. c.if-count-eq0.false (c.read_u16-count.ensures ∙ e)) (rw c.read_u16-count.ensures at c.if-count-gt-MAX_CHILDREN.false))
+    (branch_counted _ _ c.requires.0 c.args.kind c.requires.1 whole (λ e. omega (arith, c.read_u16-count.ensures, e)) (rw c.read_u16-count.ensures at c.if-count-gt-MAX_CHILDREN.false))

@@ -6,7 +6,6 @@ use native.Mathlib.Omega.{arith}
 use Rattle.commands.specs.Commands.{CONDITION_SIZE}
 use Prim.Native.Nat.{◌+◌}
 use lib.ListN.{length}
-use borrow.Author.Rules.{rules}
 use Rattle.tree.proofs.condition_at.Goals as goal
 
 pub is_cut-requires : goal.is_cut-requires

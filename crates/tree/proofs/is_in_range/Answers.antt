@@ -1,5 +1,4 @@
 -- `tree::is_in_range` meets its contract, by the kind of leaf.
-use borrow.Author.Rules.{rules}
 use Rattle.tree.proofs.is_in_range.Goals as goal
 
 pub returns-in-Condition : goal.returns-in-Condition

@@ -6,7 +6,6 @@ use native.Mathlib.Omega.{arith}
 use Rattle.commands.specs.Commands.{PAIR_SIZE}
 use Prim.Native.Nat.{◌+◌, ◌≤◌}
 use lib.ListN.{length}
-use borrow.Author.Rules.{rules}
 use Rattle.tree.proofs.pair_at.Goals as goal
 use Rattle.tree.proofs.pair_at.Lts as Lts
 use Rattle.tree.proofs.pair_at.Tie as Tie

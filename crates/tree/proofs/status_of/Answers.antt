@@ -1,5 +1,4 @@
 -- `tree::status_of` meets its contract: each evaluation has its status.
-use borrow.Author.Rules.{rules}
 use Rattle.tree.proofs.status_of.Goals as goal
 
 pub returns-in-Open : goal.returns-in-Open
