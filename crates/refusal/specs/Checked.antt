@@ -1,6 +1,6 @@
 -- What a call answers: a value, or a refusal with document 01's number and place ("Stops, in checking order").
 -- Assumes nothing.
-use Rattle.std.specs.Prelude.{ℕ, suc, List, [], ◌∷◌}
+use Rattle.std.specs.Prelude.{ℕ, suc, List, [], ◌∷◌, Result, Ok, Err}
 use Rattle.refusal.specs.declared.Refusal.{Refusal}
 use Rattle.refusal.specs.Numbers.{number_of}
 
@@ -21,3 +21,18 @@ checked_each check at (x ∷ l) = and_then (check at x) λ y. and_then (checked_
 -- a refusal of the code, in document 01's terms
 abbrev pub refused_by : {A : Type 0} → Refusal → Checked A
 refused_by x = refused (number_of x.reason) x.place
+
+-- what the code answers, in these terms
+abbrev pub answer_of : {A : Type 0} → Result A Refusal → Checked A
+answer_of (Ok a) = accepted a
+answer_of (Err x) = refused_by x
+
+-- the same where it answers no value: that which was checked
+abbrev pub answer_as : {A : Type 0} → A → Result (Unit {0}) Refusal → Checked A
+answer_as a (Ok tt) = accepted a
+answer_as a (Err x) = refused_by x
+
+-- the same of a part of what it answers, or of that by another name
+abbrev pub answer_by : {A B : Type 0} → (A → B) → Result A Refusal → Checked B
+answer_by f (Ok a) = accepted (f a)
+answer_by f (Err x) = refused_by x

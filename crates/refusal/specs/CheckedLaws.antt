@@ -1,16 +1,43 @@
 -- What an accepted answer tells of the checks before it.
 -- Assumes nothing.
-use Rattle.std.specs.Prelude.{ℕ, zero, suc, ◌+◌, ◌<◌, ◌≡◌, refl, ◌⊎◌, Bool, true, false, List, [], ◌∷◌, ◌++◌, length, get_or, if◌then◌else◌}
+use Rattle.std.specs.Prelude.{ℕ, zero, suc, ◌+◌, ◌<◌, ◌≡◌, refl, ◌⊎◌, Bool, true, false, List, [], ◌∷◌, ◌++◌, length, get_or, if◌then◌else◌, Result, Ok, Err, IsErr, IsErrAnd}
 use Rattle.std.proofs.Common.{add-zero, arith, sym, ap, ◌∙◌, inl, inr}
 use Rattle.std.proofs.Math.Decide.{dec_le}
 use Rattle.base.specs.Lists.{prefix, length_prefix}
-use Rattle.refusal.specs.Checked.{Checked, accepted, refused, and_then, checked_each}
+use Rattle.refusal.specs.declared.Refusal.{Refusal}
+use Rattle.refusal.specs.Checked.{Checked, accepted, refused, and_then, checked_each, refused_by, answer_of, answer_by}
 
 pub not_both : {A : Type 0} {a : A} {n p : ℕ} → refused n p ≡ accepted a → ⊥
 not_both e = let z : ◌≡◌ {A = ℕ} 0 1 = cc in omega arith
 
 pub accepted_same : {A : Type 0} {a b : A} → accepted a ≡ accepted b → a ≡ b
 accepted_same e = cc
+
+-- ---- a check after a check: the code's `?`
+
+-- what is refused first is refused
+pub then_refused : {A B : Type 0} {c : Checked A} {n p : ℕ} (k : A → Checked B) → refused n p ≡ c → refused n p ≡ and_then c k
+then_refused k e = rw (← e)
+
+-- and else the next check decides
+pub then_next : {A B : Type 0} {c : Checked A} {a : A} {d : Checked B} (k : A → Checked B) → accepted a ≡ c → d ≡ k a → d ≡ and_then c k
+then_next k e q = rw (← e, q)
+
+-- the code answers the refusal that it was given
+not_ok : {A : Type 0} (a : A) → (let r : Result A Refusal = Ok a in IsErr r) → ⊥
+not_ok a e =
+    let p : ◌≡◌ {A = Bool} false true = e in
+    let z : ◌≡◌ {A = ℕ} 0 1 = ap (λ (b : Bool). if b then 1 else 0) p in
+    omega arith
+
+pub passed_on : {A : Type 0} (r : Result A Refusal) (x : Refusal) {d : Checked A} → IsErr r × IsErrAnd r (λ y. y ≡ x) → refused_by x ≡ d → answer_of r ≡ d
+passed_on (Ok a) x h e = absurd (not_ok a h.0)
+passed_on (Err y) x h e = rw h.1 e
+
+pub passed_on_by : {A B : Type 0} (f : A → B) (r : Result A Refusal) (x : Refusal) {d : Checked B} → IsErr r × IsErrAnd r (λ y. y ≡ x) → refused_by x ≡ d
+    → answer_by f r ≡ d
+passed_on_by f (Ok a) x h e = absurd (not_ok a h.0)
+passed_on_by f (Err y) x h e = rw h.1 e
 
 pub accepted_then : {A B : Type 0} (r : Checked A) (k : A → Checked B) (b : B) → and_then r k ≡ accepted b → (a : A) × (r ≡ accepted a) × (k a ≡ accepted b)
 accepted_then (accepted a) k b e = (a, refl, e)

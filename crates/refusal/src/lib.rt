@@ -5,95 +5,84 @@
 ghost use Rattle.std.specs.Prelude.{◌≡◌};
 ghost use Rattle.refusal.specs.Numbers.{number_of};
 
-#[derive(Clone, Copy)]
+// Each reason has its number for its discriminant.
+#[derive(Clone, Copy, Debug, PartialEq, Eq)]
 pub enum Reason {
     // The table ends where a command or operand is due.
-    TableCut,
+    TableCut = 1,
     // A table command is unknown or not allowed there.
-    CommandNotAllowed,
+    CommandNotAllowed = 2,
     // F is outside 1 to 64.
-    FactCountOutOfRange,
+    FactCountOutOfRange = 3,
     // A 129th JOB stands in the table.
-    TooManyJobs,
+    TooManyJobs = 4,
     // A table mask has a bit at or above F.
-    TableMaskOutOfRange,
+    TableMaskOutOfRange = 5,
     // A job's adds share a fact with its deletes or its needs.
-    EffectsOverlap,
+    EffectsOverlap = 6,
     // Bytes follow the table's END.
-    BytesAfterTable,
+    BytesAfterTable = 7,
     // A reading, or the card's masks, share a fact or have a bit at or above F.
-    BadReading,
+    BadReading = 8,
     // A start for planning has an unread fact.
-    StartUnread,
+    StartUnread = 9,
     // A condition to be stored would exceed the list's capacity.
-    ListFull,
+    ListFull = 10,
     // Every entry is expanded and none is part of the start.
-    NoWay,
+    NoWay = 11,
     // The lent tree is shorter than the list's tree.
-    TreeTooShort,
+    TreeTooShort = 12,
     // A tree is overlong, cut or otherwise malformed.
-    BadTree,
+    BadTree = 13,
     // A tree node is deeper than 16.
-    TreeTooDeep,
+    TreeTooDeep = 14,
     // A tree mask has a bit at or above F, or a job number is not below the job count.
-    TreeOperandOutOfRange,
+    TreeOperandOutOfRange = 15,
     // A report names no job of the table.
-    NoSuchJob,
+    NoSuchJob = 16,
     // A need of the reported job is unread or absent.
-    NeedNotHeld,
+    NeedNotHeld = 17,
     // The card has 65,535 reports, or a sum above its limit for that count.
-    CardExhausted,
+    CardExhausted = 18,
     // A job is listed with more than 5,400 seconds.
-    JobTooLong,
+    JobTooLong = 19,
     // A sound tree that no plan of the table writes.
-    OtherOrigin,
+    OtherOrigin = 20,
     // A job needs a fact that it needs absent.
-    NeedsContradict,
+    NeedsContradict = 22,
     // The licences are not as many as the jobs, or one is none.
-    BadLicences,
+    BadLicences = 24,
     // Distances are asked for under more than 15 facts.
-    TooManyFacts,
+    TooManyFacts = 25,
     // The row has not one number for each state.
-    BadRowLength,
+    BadRowLength = 26,
     // The map is not as long as the old facts are many, or sends one outside the new table, or two to one.
-    BadMap,
+    BadMap = 27,
 }
 
-#[derive(Clone, Copy)]
+#[derive(Clone, Copy, Debug, PartialEq, Eq)]
 pub struct Refusal {
     pub reason: Reason,
     pub place: usize,
 }
 
-// The papers' number of a reason.
-pub fn number(reason: Reason) -> u8
-    ensures { result ≡ number_of reason }
-{
-    match reason {
-        Reason::TableCut => 1,
-        Reason::CommandNotAllowed => 2,
-        Reason::FactCountOutOfRange => 3,
-        Reason::TooManyJobs => 4,
-        Reason::TableMaskOutOfRange => 5,
-        Reason::EffectsOverlap => 6,
-        Reason::BytesAfterTable => 7,
-        Reason::BadReading => 8,
-        Reason::StartUnread => 9,
-        Reason::ListFull => 10,
-        Reason::NoWay => 11,
-        Reason::TreeTooShort => 12,
-        Reason::BadTree => 13,
-        Reason::TreeTooDeep => 14,
-        Reason::TreeOperandOutOfRange => 15,
-        Reason::NoSuchJob => 16,
-        Reason::NeedNotHeld => 17,
-        Reason::CardExhausted => 18,
-        Reason::JobTooLong => 19,
-        Reason::OtherOrigin => 20,
-        Reason::NeedsContradict => 22,
-        Reason::BadLicences => 24,
-        Reason::TooManyFacts => 25,
-        Reason::BadRowLength => 26,
-        Reason::BadMap => 27,
+impl Reason {
+    // A refusal for this reason, at a place.
+    pub fn at(self, place: usize) -> Refusal
+        ensures { result ≡ record { reason = self; place = place } }
+    {
+        Refusal {
+            reason: self,
+            place,
+        }
+    }
+}
+
+// A reason's number.
+impl From<Reason> for u8 {
+    ghost from_gives = { λ reason n. n ≡ number_of reason };
+
+    fn from(reason: Reason) -> u8 {
+        reason as u8
     }
 }
