@@ -31,14 +31,11 @@ pub fn without(a: u64, b: u64) -> u64
     a - (a & b)
 }
 
-// Every fact that a mask can hold.
-const EVERY: u64 = 0xFFFF_FFFF_FFFF_FFFF;
-
 // Every fact but those of `a`. A set is a part of `a` exactly where it shares none of them: who holds many sets against one finds them once.
 pub fn others(a: u64) -> u64
     ensures { result ≡ others a }
 {
-    without(EVERY, a)
+    without(u64::MAX, a)
 }
 
 // Has `a` no fact at or above `facts`? A mask has 64 bits, so with 64 facts or more it has none.

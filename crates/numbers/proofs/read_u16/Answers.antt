@@ -1,11 +1,7 @@
--- `numbers::read_u16` meets its contract: two bytes, one after the other.
-use native.Mathlib.Omega.{arith}
-use Prim.Native.Nat.{◌+◌}
-use borrow.Author.Rules.{rules}
-use Rattle.numbers.specs.NumberLaws.{read_append, read_byte}
+-- `numbers::read_u16` meets its contract.
+use Rattle.std.proofs.Common.{◌∙◌, refl}
+use Rattle.numbers.proofs.StdBytes.{std_reads}
 use Rattle.numbers.proofs.read_u16.Goals as goal
 
 pub returns : goal.returns
-returns c =
-    let a = c.args in
-    omega (arith, read_append 1 1 a.s.now a.at (omega arith), read_byte a.s.now a.at (omega arith), read_byte a.s.now (a.at + 1) (omega arith), c.wide-2.ensures.0, c.wide.ensures.0)
+returns c = c.from_le_bytes.ensures ∙ std_reads 1 _ _ _ _ refl c.requires (rw c.unwrap.ensures at c.try_into.ensures).1.same

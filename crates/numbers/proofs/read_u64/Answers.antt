@@ -1,10 +1,7 @@
--- `numbers::read_u64` meets its contract: two numbers of half the width, one after the other.
-use native.Mathlib.Omega.{arith}
-use borrow.Author.Rules.{rules}
-use Rattle.numbers.specs.NumberLaws.{read_append}
+-- `numbers::read_u64` meets its contract.
+use Rattle.std.proofs.Common.{◌∙◌, refl}
+use Rattle.numbers.proofs.StdBytes.{std_reads}
 use Rattle.numbers.proofs.read_u64.Goals as goal
 
 pub returns : goal.returns
-returns c =
-    let a = c.args in
-    omega (arith, read_append 4 4 a.s.now a.at (omega arith), c.read_u32-high.ensures, c.read_u32-low.ensures)
+returns c = c.from_le_bytes.ensures ∙ std_reads 7 _ _ _ _ refl c.requires (rw c.unwrap.ensures at c.try_into.ensures).1.same
