@@ -1,9 +1,7 @@
 -- Document 01, "Commands": "Each command is one byte with operands of fixed width. One table gives the operand width of every command."
 -- Definitions only.
-use Rattle.std.specs.Prelude.{ℕ, ◌+◌, List, [], ◌∷◌, eqb, ltb, leb, length, get_or, if◌then◌else◌}
+use Rattle.std.specs.Prelude.{ℕ, ◌+◌, List, [], ◌∷◌, eqb, ltb, leb, length, get_or, if◌then◌else◌, None, Option, Some}
 use Rattle.commands.specs.declared.Command.{Command}
-use Rattle.commands.specs.declared.Width.{Width}
-use Rattle.commands.specs.declared.Width.TheVariants.{Bytes, NoCommand}
 use Rattle.commands.specs.declared.Found.{Found}
 use Rattle.commands.specs.declared.Found.TheVariants.{Missing, Unknown, Cut, Whole}
 
@@ -129,11 +127,11 @@ abbrev pub EFFECTS_WIDTH : ℕ
 EFFECTS_WIDTH = MASK_WIDTH + MASK_WIDTH + 2
 
 -- the width that a list of commands gives a byte
-abbrev pub width_in : List Command → ℕ → Width
-width_in [] byte = NoCommand
-width_in (c ∷ cs) byte = if eqb c.byte byte then Bytes c.width else width_in cs byte
+abbrev pub width_in : List Command → ℕ → (Option ℕ)
+width_in [] byte = None
+width_in (c ∷ cs) byte = if eqb c.byte byte then Some c.width else width_in cs byte
 
-unfoldable pub width_of : ℕ → Width
+unfoldable pub width_of : ℕ → (Option ℕ)
 width_of byte = width_in commands byte
 
 -- what was read at an offset, and the offset past it
@@ -142,9 +140,9 @@ pub record Past (A : Type 0) : Type 0 where
   pub next : ℕ
 
 -- a command byte at an offset, by the bytes that are left for its operands
-abbrev pub operands_at : List ℕ → ℕ → Width → Found
-operands_at s at NoCommand = Unknown
-operands_at s at (Bytes w) = if leb (at + 1 + w) (length s) then Whole (get_or s at 0) (at + 1 + w) else Cut (get_or s at 0)
+abbrev pub operands_at : List ℕ → ℕ → (Option ℕ) → Found
+operands_at s at None = Unknown
+operands_at s at (Some w) = if leb (at + 1 + w) (length s) then Whole (get_or s at 0) (at + 1 + w) else Cut (get_or s at 0)
 
 -- what stands at an offset: a command with its operands and the offset past them, or what is amiss
 unfoldable pub command_at : List ℕ → ℕ → Found

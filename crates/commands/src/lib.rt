@@ -165,30 +165,24 @@ const SECONDS_WIDTH: usize = 2;
 // The bytes of the adds, deletes and seconds.
 pub const EFFECTS_WIDTH: usize = MASK_WIDTH + MASK_WIDTH + SECONDS_WIDTH;
 
-#[derive(Clone, Copy)]
-pub enum Width {
-    Bytes(usize),
-    NoCommand,
-}
-
-// The width of a command's operands, which is the table's: each byte has its place there.
-pub fn width_of(byte: u8) -> Width
+// The width of a command's operands, which is the table's: each byte has its place there. A byte that is no command has none.
+pub fn width_of(byte: u8) -> Option<usize>
     ensures { result ≡ width_of byte }
 {
     match byte {
-        FACTS => Width::Bytes(FACTS_WIDTH),
-        JOB => Width::Bytes(JOB_WIDTH),
-        GOAL => Width::Bytes(GOAL_WIDTH),
-        END_OF_TABLE => Width::Bytes(END_OF_TABLE_WIDTH),
-        FALLBACK => Width::Bytes(FALLBACK_WIDTH),
-        SEQUENCE => Width::Bytes(SEQUENCE_WIDTH),
-        CONDITION => Width::Bytes(CONDITION_WIDTH),
-        JOB_LEAF => Width::Bytes(JOB_LEAF_WIDTH),
-        END_OF_TREE => Width::Bytes(END_OF_TREE_WIDTH),
-        PAIRED_JOB => Width::Bytes(PAIRED_JOB_WIDTH),
-        PAIR => Width::Bytes(PAIR_WIDTH),
-        WAITING => Width::Bytes(WAITING_WIDTH),
-        _ => Width::NoCommand,
+        FACTS => Some(FACTS_WIDTH),
+        JOB => Some(JOB_WIDTH),
+        GOAL => Some(GOAL_WIDTH),
+        END_OF_TABLE => Some(END_OF_TABLE_WIDTH),
+        FALLBACK => Some(FALLBACK_WIDTH),
+        SEQUENCE => Some(SEQUENCE_WIDTH),
+        CONDITION => Some(CONDITION_WIDTH),
+        JOB_LEAF => Some(JOB_LEAF_WIDTH),
+        END_OF_TREE => Some(END_OF_TREE_WIDTH),
+        PAIRED_JOB => Some(PAIRED_JOB_WIDTH),
+        PAIR => Some(PAIR_WIDTH),
+        WAITING => Some(WAITING_WIDTH),
+        _ => None,
     }
 }
 
@@ -214,8 +208,8 @@ pub fn command_at(s: &[u8], at: usize) -> Found
     let byte = s[at];
     let rest = s.len() - at - 1;
     match width_of(byte) {
-        Width::NoCommand => Found::Unknown,
-        Width::Bytes(w) => {
+        None => Found::Unknown,
+        Some(w) => {
             if w <= rest {
                 Found::Whole(byte, at + 1 + w)
             } else {

@@ -1,6 +1,6 @@
 -- The search for a listed part, step by step, and what each answer says.
 -- Assumes nothing.
-use Rattle.std.specs.Prelude.{Bool, not, ◌&&◌, List, ◌≡◌, ℕ, zero, suc, ◌-◌, ◌^◌, ◌≤◌, ◌<◌, T, get_or}
+use Rattle.std.specs.Prelude.{Bool, not, ◌&&◌, List, ◌≡◌, ℕ, zero, suc, ◌-◌, ◌^◌, ◌≤◌, ◌<◌, T, get_or, None, Option, Some}
 use Rattle.std.proofs.Math.Bool.{true, false}
 use Rattle.std.proofs.Math.Path.{refl}
 use Rattle.std.proofs.Common.{sym, ◌∙◌, not-suc-le-zero, arith}
@@ -9,12 +9,10 @@ use Rattle.base.specs.Bools.{holds}
 use Rattle.masks.specs.Sets.{subset, intersects, others}
 use Rattle.masks.specs.Laws.{part_others}
 use Rattle.conditions.specs.declared.Condition.{Condition}
-use Rattle.conditions.specs.declared.Found.{Found}
-use Rattle.conditions.specs.declared.Found.TheVariants.{At, Nowhere}
 use Rattle.conditions.specs.Condition.{weaker, condition_at}
 use Rattle.conditions.specs.Search.{newest_weaker, Sharing, Newest, Searches}
 
-pub found_nowhere : {k : ℕ} → At k ≡ Nowhere → ⊥
+pub found_nowhere : {k : ℕ} → Some k ≡ None → ⊥
 found_nowhere e = let z : ◌≡◌ {A = ℕ} 0 1 = cc in omega arith
 
 turned : (b : Bool) → not b ≡ true → b ≡ false
@@ -41,7 +39,7 @@ four_sharing masks others k l a b c d i m h =
 module _ (conditions absences : List ℕ) (c : Condition) where
   -- ---- the steps
 
-  pub newest_none : Nowhere ≡ newest_weaker conditions absences 0 c
+  pub newest_none : None ≡ newest_weaker conditions absences 0 c
   unfolding newest_weaker
   newest_none = refl
 
@@ -65,7 +63,7 @@ module _ (conditions absences : List ℕ) (c : Condition) where
         none false b e = refl
 
   module _ (k : ℕ) where
-    pub newest_met : weaker (condition_at conditions absences k) c ≡ true → At k ≡ newest_weaker conditions absences (suc k) c
+    pub newest_met : weaker (condition_at conditions absences k) c ≡ true → Some k ≡ newest_weaker conditions absences (suc k) c
     unfolding newest_weaker
     newest_met e = rw e
 
@@ -88,13 +86,13 @@ module _ (conditions absences : List ℕ) (c : Condition) where
 
   -- ---- the answers
 
-  pub found_newest : (n k : ℕ) → newest_weaker conditions absences n c ≡ At k → Newest conditions absences n c k
+  pub found_newest : (n k : ℕ) → newest_weaker conditions absences n c ≡ Some k → Newest conditions absences n c k
   found_newest zero k e = absurd (found_nowhere (sym e ∙ sym newest_none))
   found_newest (suc n) k e = by (weaker (condition_at conditions absences n) c) refl (found_newest n k)
     where
-      by : (b : Bool) → weaker (condition_at conditions absences n) c ≡ b → (newest_weaker conditions absences n c ≡ At k → Newest conditions absences n c k) → Newest conditions absences (suc n) c k
+      by : (b : Bool) → weaker (condition_at conditions absences n) c ≡ b → (newest_weaker conditions absences n c ≡ Some k → Newest conditions absences n c k) → Newest conditions absences (suc n) c k
       by true w older =
-          let q : At n ≡ At k = newest_met n w ∙ e in
+          let q : Some n ≡ Some k = newest_met n w ∙ e in
           let x : n ≡ k = cc in
           record { is_listed = omega arith; is_part = rw x at (holds _ w); no_newer = λ i l h t. omega arith }
       by false w older =
@@ -110,11 +108,11 @@ module _ (conditions absences : List ℕ) (c : Condition) where
           }
 
   -- None is answered exactly where no listed condition is a part.
-  pub nowhere_none : (n : ℕ) → newest_weaker conditions absences n c ≡ Nowhere → (i : ℕ) → i < n → T (weaker (condition_at conditions absences i) c) → ⊥
+  pub nowhere_none : (n : ℕ) → newest_weaker conditions absences n c ≡ None → (i : ℕ) → i < n → T (weaker (condition_at conditions absences i) c) → ⊥
   nowhere_none zero e i h t = not-suc-le-zero h
   nowhere_none (suc n) e i h t = by (weaker (condition_at conditions absences n) c) refl (λ q l. nowhere_none n q i l t)
     where
-      by : (b : Bool) → weaker (condition_at conditions absences n) c ≡ b → (newest_weaker conditions absences n c ≡ Nowhere → i < n → ⊥) → ⊥
+      by : (b : Bool) → weaker (condition_at conditions absences n) c ≡ b → (newest_weaker conditions absences n c ≡ None → i < n → ⊥) → ⊥
       by true w older = found_nowhere (newest_met n w ∙ e)
       by false w older =
           elim (dec_le n i) [
@@ -122,16 +120,16 @@ module _ (conditions absences : List ℕ) (c : Condition) where
             | no a ↦ older (newest_other n w ∙ e) (omega arith)
           ]
 
-  pub none_nowhere : (n : ℕ) → ((i : ℕ) → i < n → T (weaker (condition_at conditions absences i) c) → ⊥) → newest_weaker conditions absences n c ≡ Nowhere
+  pub none_nowhere : (n : ℕ) → ((i : ℕ) → i < n → T (weaker (condition_at conditions absences i) c) → ⊥) → newest_weaker conditions absences n c ≡ None
   none_nowhere n none = by (newest_weaker conditions absences n c) refl
     where
-      by : (f : Found) → newest_weaker conditions absences n c ≡ f → f ≡ Nowhere
-      by (At k) e = let m = found_newest n k e in absurd (none k m.is_listed m.is_part)
-      by Nowhere e = refl
+      by : (f : (Option ℕ)) → newest_weaker conditions absences n c ≡ f → f ≡ None
+      by (Some k) e = let m = found_newest n k e in absurd (none k m.is_listed m.is_part)
+      by None e = refl
 
   -- ---- the promise
 
-  pub searches : (n : ℕ) (found : Found) → found ≡ newest_weaker conditions absences n c → Searches conditions absences n c found
+  pub searches : (n : ℕ) (found : (Option ℕ)) → found ≡ newest_weaker conditions absences n c → Searches conditions absences n c found
   searches n found e =
       record {
         answer = e;

@@ -3,7 +3,7 @@
 #![tactic(auto)]
 
 ghost use Rattle.std.specs.Prelude.{◌≡◌, true, ◌-◌, ◌≤◌, length, get_or, set};
-ghost use Rattle.conditions.specs.Condition.{consistent, condition_within, satisfied, relevant, regressed, condition_at, action_at};
+ghost use Rattle.conditions.specs.Condition.{consistent, condition_within, satisfied, relevant, regressed, condition_at};
 ghost use Rattle.masks.specs.Sets.{others};
 ghost use Rattle.conditions.specs.Search.{Sharing, Searches};
 ghost use Rattle.conditions.specs.OnReading.{evaluated, applicable, finished};
@@ -18,7 +18,7 @@ pub struct Condition {
 }
 
 // The facts that the action needs, those that it needs absent, and those that it adds and deletes.
-#[derive(Clone, Copy)]
+#[derive(Clone, Copy, Default)]
 pub struct Action {
     pub needs: u64,
     pub absent: u64,
@@ -56,22 +56,6 @@ pub fn condition_at(conditions: &[u64], absences: &[u64], i: usize) -> Condition
     Condition { present, absent }
 }
 
-// The action at an index of four columns.
-pub fn action_at(needs: &[u64], absent: &[u64], adds: &[u64], deletes: &[u64], i: usize) -> Action
-    ensures { result ≡ action_at needs.now absent.now adds.now deletes.now i }
-{
-    let needed = mask_at(needs, i);
-    let lacked = mask_at(absent, i);
-    let added = mask_at(adds, i);
-    let deleted = mask_at(deletes, i);
-    Action {
-        needs: needed,
-        absent: lacked,
-        adds: added,
-        deletes: deleted,
-    }
-}
-
 // ---- conditions among themselves
 
 // Does it want no fact both ways?
@@ -86,13 +70,6 @@ pub fn is_within(facts: u8, c: Condition) -> bool
     ensures { result ≡ condition_within facts c }
 {
     masks::is_within(facts, masks::join(c.present, c.absent))
-}
-
-// Where the search for a listed part of a condition ended: at an entry of the list, or at none.
-#[derive(Clone, Copy)]
-pub enum Found {
-    At(usize),
-    Nowhere,
 }
 
 // Have the four masks before k each a fact of `others`?
@@ -132,21 +109,21 @@ fn past_others(conditions: &[u64], n: usize, mask: u64) -> usize
 // The newest of the first n listed conditions that is a part of `c` (document 02, W6). The second column is looked at only where the first mask
 // fits.
 #[tactic(auto, using(crate::proofs::NoneLeft::none_left))]
-pub fn newest_weaker(conditions: &[u64], absences: &[u64], n: usize, c: Condition) -> Found
+pub fn newest_weaker(conditions: &[u64], absences: &[u64], n: usize, c: Condition) -> Option<usize>
     requires { n ≤ length conditions.now }
     ensures { Searches conditions.now absences.now n c result }
 {
     let mut k = past_others(conditions, n, c.present);
     'search: loop {
         if k == 0 {
-            break Found::Nowhere;
+            break None;
         }
         k -= 1;
         let present = conditions[k];
         if masks::is_subset(present, c.present) {
             let absent = mask_at(absences, k);
             if masks::is_subset(absent, c.absent) {
-                break Found::At(k);
+                break Some(k);
             }
         }
     }

@@ -2,10 +2,8 @@
 -- Definitions only.
 use Rattle.std.specs.Prelude.{ℕ, ◌-◌, ◌/◌, ◌%◌, ◌^◌, Bool, ◌&&◌, ◌||◌, not, List, [], ◌∷◌, eqb, ltb, if◌then◌else◌}
 use Rattle.masks.specs.Sets.{union, difference, intersects}
-use Rattle.refusal.specs.Checked.{Checked, accepted, refused, refused_by}
+use Rattle.refusal.specs.Checked.{Checked, accepted, refused}
 use Rattle.reading.specs.declared.Reading.{Reading}
-use Rattle.fact_map.specs.declared.MapChecked.{MapChecked}
-use Rattle.fact_map.specs.declared.MapChecked.TheVariants as M
 use Rattle.fact_map.specs.FactMap.{DROPPED, is_map}
 
 -- the set of one fact; a mask has none at or above 64, and so not the fact that a dropped one would be
@@ -41,7 +39,3 @@ carried_sets new map sent_to r =
 -- 27, or where the facts are sent
 unfoldable pub checked_map : (old new : ℕ) → List ℕ → Checked ℕ
 checked_map old new map = if is_map old new map then accepted (targets map) else refused 27 0
-
-abbrev pub map_checked_of : MapChecked → Checked ℕ
-map_checked_of (M.Sound set) = accepted set
-map_checked_of (M.Refused x) = refused_by x

@@ -145,9 +145,13 @@ module _ (new : ℕ) (map : List ℕ) where
   unfolding targets sends
   judged_none = rw (drop-length map) (refl, refl)
 
-  module _ (few : new ≤ 64) (i taken : ℕ) (h : i < length map) (j : JudgedFrom new map (suc i) taken) where
+  -- one byte more, that before the k-th
+  module _ (few : new ≤ 64) (k i taken : ℕ) (q : k ≡ suc i) (h : i < length map) (judged : JudgedFrom new map k taken) where
     here : drop i map ≡ get_or map i 0 ∷ drop (suc i) map
     here = drop-cons map i 0 h
+
+    j : JudgedFrom new map (suc i) taken
+    j = rw q at judged
 
     pub judged_next : fits new taken (get_or map i 0) ≡ true → JudgedFrom new map i (union taken (only (get_or map i 0)))
     unfolding targets

@@ -3,22 +3,15 @@
 #![tactic(auto)]
 
 ghost use Rattle.std.specs.Prelude.{◌≡◌, ◌≤◌};
-ghost use Rattle.reading.specs.Reading.{reading_of};
 ghost use Rattle.fact_map.specs.FactMap.{mapped_reading};
-ghost use Rattle.fact_map.specs.Carry.{only, fits, first_sent, carried, first_facts, carried_sets, checked_map, map_checked_of};
+ghost use Rattle.fact_map.specs.Carry.{only, fits, first_sent, carried, first_facts, carried_sets, checked_map};
+ghost use Rattle.refusal.specs.Checked.{answer_of};
 
-use reading::{Reading, ReadingChecked};
+use reading::Reading;
 use refusal::{Reason, Refusal};
 
 // The byte of a fact that is dropped.
 pub const DROPPED: u8 = 255;
-
-// The facts that others are sent to, or why a map is none.
-#[derive(Clone, Copy)]
-pub enum MapChecked {
-    Sound(u64),
-    Refused(Refusal),
-}
 
 // The set of one fact. A mask has none at or above 64.
 fn only(fact: u8) -> u64
@@ -43,34 +36,24 @@ fn is_free(new: u8, taken: u64, to: u8) -> bool
     to < new
 }
 
-fn refuse() -> MapChecked
-    ensures { result ≡ MapChecked.Refused (record { reason = Reason.BadMap; place = 0 }) }
-{
-    MapChecked::Refused(Refusal {
-        reason: Reason::BadMap,
-        place: 0,
-    })
-}
-
-// A map between tables of so many facts, from its last byte down, so that those behind a byte are known when it is judged.
-fn check_map(old: u8, new: u8, map: &[u8]) -> MapChecked
+// The facts that others are sent to by a map between tables of so many facts. It is judged from its last byte down, so that those behind a byte are known
+// when it is judged.
+fn check_map(old: u8, new: u8, map: &[u8]) -> Result<u64, Refusal>
     requires { new ≤ 64 }
-    ensures { map_checked_of result ≡ checked_map old new map.now }
+    ensures { answer_of result ≡ checked_map old new map.now }
 {
     if map.len() != old as usize {
-        return refuse();
+        return Err(Reason::BadMap.at(0));
     }
     let mut taken: u64 = 0;
-    let mut i = map.len();
-    while i > 0 {
-        i -= 1;
+    for i in (0..map.len()).rev() {
         let to = map[i];
         if !is_free(new, taken, to) {
-            return refuse();
+            return Err(Reason::BadMap.at(0));
         }
         taken = masks::join(taken, only(to));
     }
-    MapChecked::Sound(taken)
+    Ok(taken)
 }
 
 // Where the first fact of a set goes, if the set has it.
@@ -89,11 +72,9 @@ fn carry(map: &[u8], set: u64) -> u64
 {
     let mut sent: u64 = 0;
     let mut left = set;
-    let mut i = 0;
-    while i < map.len() {
-        sent = masks::join(sent, first_sent(map[i], left));
+    for &to in map {
+        sent = masks::join(sent, first_sent(to, left));
         left /= 2;
-        i += 1;
     }
     sent
 }
@@ -104,7 +85,7 @@ fn first_facts(facts: u8) -> u64
     ensures { result ≡ first_facts facts }
 {
     if facts == 64 {
-        return 0xFFFF_FFFF_FFFF_FFFF;
+        return u64::MAX;
     }
     (1 << facts) - 1
 }
@@ -122,12 +103,10 @@ fn carry_sets(new: u8, map: &[u8], taken: u64, reading: Reading) -> Reading
 }
 
 // A reading under a table of so many facts, as one under a table of `new` facts: any map.
-pub fn map_reading(old: u8, new: u8, map: &[u8], reading: Reading) -> ReadingChecked
+pub fn map_reading(old: u8, new: u8, map: &[u8], reading: Reading) -> Result<Reading, Refusal>
     requires { new ≤ 64 }
-    ensures { reading_of result ≡ mapped_reading old new map.now reading }
+    ensures { answer_of result ≡ mapped_reading old new map.now reading }
 {
-    match check_map(old, new, map) {
-        MapChecked::Refused(x) => ReadingChecked::Refused(x),
-        MapChecked::Sound(taken) => ReadingChecked::Sound(carry_sets(new, map, taken, reading)),
-    }
+    let taken = check_map(old, new, map)?;
+    Ok(carry_sets(new, map, taken, reading))
 }

@@ -1,11 +1,10 @@
 -- Two fitters at one vehicle: document 02, W12. "Each job gets a licence byte: 1 first fitter, 2 second, 3 both."
 -- Definitions only.
 use Rattle.std.specs.Prelude.{ℕ, Bool, true, false, ◌&&◌, List, eqb, leb, length, get_or, if◌then◌else◌}
-use Rattle.refusal.specs.Checked.{Checked, accepted, refused, refused_by, and_then, checked_each}
+use Rattle.refusal.specs.Checked.{Checked, accepted, refused, and_then, checked_each}
 use Rattle.licences.specs.declared.Fitter.{Fitter}
 use Rattle.licences.specs.declared.Fitter.TheVariants.{First, Second}
-use Rattle.licences.specs.declared.LicencesChecked.{LicencesChecked}
-use Rattle.licences.specs.declared.LicencesChecked.TheVariants as L
+use Rattle.licences.specs.declared.Owner.{Owner}
 
 abbrev pub FIRST : ℕ
 FIRST = 1
@@ -34,11 +33,6 @@ module _ (jobs : ℕ) where
   unfoldable pub checked_licences : List ℕ → Checked (List ℕ)
   checked_licences licences = and_then (as_many licences) each_sound
 
--- the answer of the code, of a row that is given back as it is where it passes
-abbrev pub licences_of : List ℕ → LicencesChecked → Checked (List ℕ)
-licences_of licences L.Sound = accepted licences
-licences_of licences (L.Refused x) = refused_by x
-
 -- ---- whose job it is
 
 -- "Jobs with 3 belong to the first fitter."
@@ -54,6 +48,10 @@ is_fitter Second Second = true
 -- A job without a licence is the first fitter's, so that without licences all are.
 abbrev pub owns : List ℕ → Fitter → (job : ℕ) → Bool
 owns licences fitter job = is_fitter fitter (owner_of (get_or licences job FIRST))
+
+-- the same of an owner as the code holds him
+abbrev pub owned_by : Owner → (job : ℕ) → Bool
+owned_by owner job = owns owner.licences.now owner.fitter job
 
 abbrev pub other_than : Fitter → Fitter
 other_than First = Second

@@ -2,7 +2,8 @@
 #![tactic(auto)]
 
 ghost use Rattle.std.specs.Prelude.{◌≡◌, eqb, get_or};
-ghost use Rattle.licences.specs.Licences.{FIRST, is_licence, checked_licences, licences_of, owns};
+ghost use Rattle.licences.specs.Licences.{FIRST, is_licence, checked_licences, owned_by};
+ghost use Rattle.refusal.specs.Checked.{answer_as};
 
 use refusal::{Reason, Refusal};
 
@@ -19,21 +20,6 @@ const SECOND: u8 = 2;
 
 const BOTH: u8 = 3;
 
-#[derive(Clone, Copy)]
-pub enum LicencesChecked {
-    Sound,
-    Refused(Refusal),
-}
-
-fn refuse(place: usize) -> LicencesChecked
-    ensures { result ≡ LicencesChecked.Refused (record { reason = Reason.BadLicences; place = place }) }
-{
-    LicencesChecked::Refused(Refusal {
-        reason: Reason::BadLicences,
-        place,
-    })
-}
-
 fn is_licence(licence: u8) -> bool
     ensures { result ≡ is_licence licence }
 {
@@ -44,21 +30,18 @@ fn is_licence(licence: u8) -> bool
 }
 
 // The licences of a table with so many jobs: any row.
-pub fn check_licences(jobs: usize, licences: &[u8]) -> LicencesChecked
-    ensures { licences_of licences.now result ≡ checked_licences jobs licences.now }
+pub fn check_licences(jobs: usize, licences: &[u8]) -> Result<(), Refusal>
+    ensures { answer_as licences.now result ≡ checked_licences jobs licences.now }
 {
     if licences.len() != jobs {
-        return refuse(0);
+        return Err(Reason::BadLicences.at(0));
     }
-    let mut left = jobs;
-    while left > 0 {
-        let i = jobs - left;
+    for i in 0..jobs {
         if !is_licence(licences[i]) {
-            return refuse(i);
+            return Err(Reason::BadLicences.at(i));
         }
-        left -= 1;
     }
-    LicencesChecked::Sound
+    Ok(())
 }
 
 // Past the end of the row a job's licence is the first fitter's.
@@ -72,12 +55,21 @@ fn has_licence(licences: &[u8], job: u8, licence: u8) -> bool
     licences[i] == licence
 }
 
-// Does a job belong to the fitter? Without licences all belong to the first.
-pub fn is_owner(licences: &[u8], fitter: Fitter, job: u8) -> bool
-    ensures { result ≡ owns licences.now fitter job }
-{
-    match fitter {
-        Fitter::First => !has_licence(licences, job, SECOND),
-        Fitter::Second => has_licence(licences, job, SECOND),
+// A fitter, with the licences that tell which jobs are his. Without licences all are the first fitter's.
+#[derive(Clone, Copy)]
+pub struct Owner<'a> {
+    pub licences: &'a [u8],
+    pub fitter: Fitter,
+}
+
+impl Owner<'_> {
+    // Does a job belong to the fitter?
+    pub fn owns(self, job: u8) -> bool
+        ensures { result ≡ owned_by self.entry job }
+    {
+        match self.fitter {
+            Fitter::First => !has_licence(self.licences, job, SECOND),
+            Fitter::Second => has_licence(self.licences, job, SECOND),
+        }
     }
 }

@@ -2,7 +2,8 @@
 #![tactic(auto)]
 
 ghost use Rattle.std.specs.Prelude.{◌≡◌};
-ghost use Rattle.reading.specs.Reading.{sound, checked_at, checked_start, reading_of};
+ghost use Rattle.reading.specs.Reading.{sound, checked_at, checked_start};
+ghost use Rattle.refusal.specs.Checked.{answer_of};
 
 use refusal::{Reason, Refusal};
 
@@ -11,12 +12,6 @@ use refusal::{Reason, Refusal};
 pub struct Reading {
     pub held: u64,
     pub unread: u64,
-}
-
-#[derive(Clone, Copy)]
-pub enum ReadingChecked {
-    Sound(Reading),
-    Refused(Refusal),
 }
 
 // Has the reading only facts below `facts`, and none both held and unread?
@@ -32,32 +27,24 @@ fn is_sound(facts: u8, reading: Reading) -> bool
     !masks::share_fact(reading.held, reading.unread)
 }
 
-fn refused(reason: Reason, place: usize) -> ReadingChecked
-    ensures { result ≡ ReadingChecked.Refused (record { reason = reason; place = place }) }
-{
-    ReadingChecked::Refused(Refusal { reason, place })
-}
-
 // A reading under a table with so many facts: any reading; what is refused has the caller's place.
-pub fn check_reading(facts: u8, place: usize, reading: Reading) -> ReadingChecked
-    ensures { reading_of result ≡ checked_at facts place reading }
+pub fn check_reading(facts: u8, place: usize, reading: Reading) -> Result<Reading, Refusal>
+    ensures { answer_of result ≡ checked_at facts place reading }
 {
     if !is_sound(facts, reading) {
-        return refused(Reason::BadReading, place);
+        return Err(Reason::BadReading.at(place));
     }
-    ReadingChecked::Sound(reading)
+    Ok(reading)
 }
 
 // A start for planning, under a table with so many facts: any reading.
 #[tactic(auto, using(crate::specs::ReadingLaws::start_unsound, crate::specs::ReadingLaws::start_unread, crate::specs::ReadingLaws::start_sound))]
-pub fn check_start(facts: u8, start: Reading) -> ReadingChecked
-    ensures { reading_of result ≡ checked_start facts start }
+pub fn check_start(facts: u8, start: Reading) -> Result<Reading, Refusal>
+    ensures { answer_of result ≡ checked_start facts start }
 {
-    if !is_sound(facts, start) {
-        return refused(Reason::BadReading, 0);
-    }
+    let start = check_reading(facts, 0, start)?;
     if start.unread != 0 {
-        return refused(Reason::StartUnread, 0);
+        return Err(Reason::StartUnread.at(0));
     }
-    ReadingChecked::Sound(start)
+    Ok(start)
 }

@@ -6,11 +6,11 @@ use Rattle.commands.proofs.command_at.Goals as goal
 pub returns-then-s-at : goal.returns-then-s-at
 returns-then-s-at c = sym (at_missing _ _ c.if-s-at.true)
 
-pub returns-in-NoCommand : goal.returns-in-NoCommand
-returns-in-NoCommand c = sym (at_unknown _ _ c.if-s-at.false (sym c.width_of.ensures ∙ c.in-NoCommand.is))
+pub returns-in-None : goal.returns-in-None
+returns-in-None c = sym (at_unknown _ _ c.if-s-at.false (sym c.width_of.ensures ∙ c.in-None.is))
 
 pub returns-then-w-rest : goal.returns-then-w-rest
-returns-then-w-rest c = sym (at_whole _ _ c.if-s-at.false _ (sym c.width_of.ensures ∙ c.in-Bytes.is) (omega arith))
+returns-then-w-rest c = sym (at_whole _ _ c.if-s-at.false _ (sym c.width_of.ensures ∙ c.in-Some.is) (omega arith))
 
 pub returns-else-w-rest : goal.returns-else-w-rest
-returns-else-w-rest c = sym (at_cut _ _ c.if-s-at.false _ (sym c.width_of.ensures ∙ c.in-Bytes.is) (omega arith))
+returns-else-w-rest c = sym (at_cut _ _ c.if-s-at.false _ (sym c.width_of.ensures ∙ c.in-Some.is) (omega arith))

@@ -5,7 +5,6 @@ use Prim.Native.Nat.{ℕ, suc, ◌-◌}
 use native.Mathlib.Omega.{arith}
 use lib.ListN.{get_or}
 use Rattle.masks.specs.Sets.{subset}
-use Rattle.conditions.specs.declared.Found.{Found}
 use Rattle.conditions.specs.Condition.{weaker, condition_at}
 use Rattle.conditions.specs.Search.{newest_weaker}
 use Rattle.conditions.specs.SearchLaws.{newest_met, newest_other, part_both, first_other, second_other, passed_over, searches}
@@ -13,6 +12,7 @@ use Rattle.conditions.proofs.newest_weaker.Goals as goal
 use Rattle.conditions.proofs.newest_weaker.Lts as Lts
 use Rattle.conditions.proofs.newest_weaker.Tie as Tie
 use Rattle.conditions.proofs.newest_weaker.Reads as Reads
+use Rattle.std.specs.Prelude.{Option}
 
 abbrev AtAfterIsSubset : Type 0
 AtAfterIsSubset = Lts.After-is_subset Tie.the-claims Reads.Pre Reads.Post goal.the-invariant-search goal.the-decreases-search
@@ -45,7 +45,7 @@ abbrev first_of : Second → First
 first_of c = c.before.before.before
 
 -- the search of the first i entries
-abbrev among : AtSearch → ℕ → Found
+abbrev among : AtSearch → ℕ → (Option ℕ)
 among c i = newest_weaker (start_of c).args.conditions.now (start_of c).args.absences.now i (start_of c).args.c
 
 newer : (c : First) → suc ((turn_of c).search.k - 1) ≡ (turn_of c).search.k
