@@ -1,12 +1,11 @@
 -- A job's bytes, there and back.
 -- Assumes nothing.
-use Rattle.std.specs.Prelude.{ℕ, suc, ◌+◌, ◌≤◌, Bool, eqb, length, drop}
+use Rattle.std.specs.Prelude.{ℕ, suc, ◌+◌, ◌≤◌, Bool, eqb, length, drop, Some}
 use Rattle.std.proofs.Common.{arith, ◌∙◌, eq-eqb, ne_eqb, get_or-drop}
 use Rattle.std.proofs.Math.Path.{◌≡◌, refl, sym, ap}
 use Rattle.std.proofs.Math.Bool.{true, false}
 use mathlib.Core.List.{List, ◌∷◌, ◌++◌, append_assoc}
 use Rattle.std.proofs.Math.ListN.{get_or}
-use Rattle.commands.specs.declared.Width.TheVariants.{Bytes}
 use Rattle.commands.specs.Commands.{PAIRED_JOB, JOB_SIZE, PAIRED_JOB_SIZE, OPERANDS_AT, ABSENT_AT, ADDS_AT, PAIRED_ADDS_AT, MASK_WIDTH, width_of}
 use Rattle.numbers.specs.Numbers.{AreBytes, to_bytes, number_at}
 use Rattle.numbers.specs.NumberLaws.{from_to, read_drop, number_lt, byte_there, number_there}
@@ -24,7 +23,7 @@ by_size false j = refl
 by_size true j = refl
 
 -- as the table of commands has it
-pub by_width : (paired : Bool) (j : Job) → width_of (command_by paired) ≡ Bytes (length (operands_by paired j))
+pub by_width : (paired : Bool) (j : Job) → width_of (command_by paired) ≡ Some (length (operands_by paired j))
 unfolding to_bytes width_of
 by_width false j = refl
 by_width true j = refl

@@ -2,9 +2,8 @@
 -- Definitions only.
 use Rattle.std.specs.Prelude.{ℕ, ◌≤◌, ◌≡◌, Bool, true, false, ◌&&◌, ◌||◌, leb, if◌then◌else◌}
 use Rattle.masks.specs.Sets.{intersects, within}
-use Rattle.refusal.specs.Checked.{Checked, accepted, refused, refused_by}
+use Rattle.refusal.specs.Checked.{Checked, accepted, refused}
 use Rattle.job.specs.declared.Job.{Job}
-use Rattle.job.specs.declared.Validated.{Validated}
 
 -- document 02, W3: "the longest listed job is 5,400 seconds. That becomes the limit of the seconds field"
 abbrev pub max_seconds : ℕ
@@ -40,8 +39,3 @@ pub record SoundJob (facts : ℕ) (j : Job) : Type 0 where
   pub apart : overlaps j ≡ false
   pub time_held : j.seconds ≤ max_seconds
   pub one_way : contradicts j ≡ false
-
--- the answer of the code about a job, or about a whole table, in these terms
-abbrev pub validated_of : {A : Type 0} → A → Validated → Checked A
-validated_of a Validated.Sound = accepted a
-validated_of a (Validated.Refused x) = refused_by x

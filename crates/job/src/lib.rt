@@ -4,7 +4,8 @@
 ghost use Rattle.std.specs.Prelude.{◌≡◌, ◌+◌, ◌≤◌, length};
 ghost use Rattle.commands.specs.Commands.{ADDS_AT, EFFECTS_WIDTH};
 ghost use Rattle.job.specs.Job.{action_of, command_by, job_size, job_with, job_from, past_job_of};
-ghost use Rattle.job.specs.Validation.{in_range, overlaps, validated_job, validated_of};
+ghost use Rattle.job.specs.Validation.{in_range, overlaps, validated_job};
+ghost use Rattle.refusal.specs.Checked.{answer_as};
 
 use conditions::Action;
 use refusal::{Reason, Refusal};
@@ -100,13 +101,6 @@ pub fn job_from(s: &[u8], at: usize) -> PastJob
 // The most seconds that a job may be listed with.
 pub const MAX_SECONDS: u16 = 5_400;
 
-// What the checks of a job, or of a whole table, come to.
-#[derive(Clone, Copy)]
-pub enum Validated {
-    Sound,
-    Refused(Refusal),
-}
-
 // One test of all masks: a union is within the facts exactly where each of them is.
 fn masks_in_range(facts: u8, job: Job) -> bool
     ensures { result ≡ in_range facts job }
@@ -124,32 +118,20 @@ fn effects_overlap(job: Job) -> bool
 
 // A job's masks against the number of facts and against each other, then its seconds; `at` is where its command stands.
 #[tactic(auto, using(crate::proofs::ValidationLaws::validated_out, crate::proofs::ValidationLaws::validated_overlap, crate::proofs::ValidationLaws::validated_long, crate::proofs::ValidationLaws::validated_contradicts, crate::proofs::ValidationLaws::validated_sound))]
-pub fn validate_job(facts: u8, at: usize, job: Job) -> Validated
-    ensures { validated_of job result ≡ validated_job facts at job }
+pub fn validate_job(facts: u8, at: usize, job: Job) -> Result<(), Refusal>
+    ensures { answer_as job result ≡ validated_job facts at job }
 {
     if !masks_in_range(facts, job) {
-        return Validated::Refused(Refusal {
-            reason: Reason::TableMaskOutOfRange,
-            place: at,
-        });
+        return Err(Reason::TableMaskOutOfRange.at(at));
     }
     if effects_overlap(job) {
-        return Validated::Refused(Refusal {
-            reason: Reason::EffectsOverlap,
-            place: at,
-        });
+        return Err(Reason::EffectsOverlap.at(at));
     }
     if job.seconds > MAX_SECONDS {
-        return Validated::Refused(Refusal {
-            reason: Reason::JobTooLong,
-            place: at,
-        });
+        return Err(Reason::JobTooLong.at(at));
     }
     if masks::share_fact(job.needs, job.absent) {
-        return Validated::Refused(Refusal {
-            reason: Reason::NeedsContradict,
-            place: at,
-        });
+        return Err(Reason::NeedsContradict.at(at));
     }
-    Validated::Sound
+    Ok(())
 }

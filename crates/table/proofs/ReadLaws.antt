@@ -4,7 +4,7 @@ use Prim.Native.Nat.{ℕ, zero, suc, ◌+◌, ◌≤◌, ◌<◌}
 use native.Mathlib.Omega.{arith}
 use Rattle.std.proofs.Math.Path.{◌≡◌, refl}
 use Rattle.std.proofs.Common.{sym, ◌∙◌}
-use Rattle.std.specs.Prelude.{Bool, List, [], ◌∷◌, ◌++◌, eqb, length, get_or, if◌then◌else◌}
+use Rattle.std.specs.Prelude.{Bool, List, [], ◌∷◌, ◌++◌, eqb, length, get_or, if◌then◌else◌, Some}
 use Rattle.std.proofs.Math.Bool.{true, false}
 use borrow.Author.Tests.{eq-eqb, ne_eqb, eqb-true, lt-ltb, le-ltb}
 use Rattle.masks.specs.Sets.{within}
@@ -12,7 +12,6 @@ use Rattle.refusal.specs.Checked.{Checked, accepted, refused}
 use Rattle.refusal.specs.CheckedLaws.{not_both, accepted_same}
 use Rattle.commands.specs.declared.Found.{Found}
 use Rattle.commands.specs.declared.Found.TheVariants.{Missing, Unknown, Cut, Whole}
-use Rattle.commands.specs.declared.Width.TheVariants.{Bytes}
 use Rattle.commands.specs.Commands.{FACTS, JOB, PAIRED_JOB, GOAL, END_OF_TABLE, FACTS_SIZE, GOAL_SIZE, END_OF_TABLE_SIZE, OPERANDS_AT, Past, width_of, command_at}
 use Rattle.commands.specs.CommandLaws.{WholeAt, whole_told}
 use Rattle.numbers.specs.Numbers.{number_at}
@@ -84,7 +83,7 @@ module _ (stage : Stage) (s : List ℕ) (at : ℕ) (c : Past ℕ) where
 
 -- where a command's operands end
 
-sized : (s : List ℕ) (at : ℕ) (c : Past ℕ) (byte w : ℕ) → WholeAt s at c.value c.next → c.value ≡ byte → width_of byte ≡ Bytes w
+sized : (s : List ℕ) (at : ℕ) (c : Past ℕ) (byte w : ℕ) → WholeAt s at c.value c.next → c.value ≡ byte → width_of byte ≡ Some w
     → (c.next ≡ at + 1 + w) × (at + 1 + w ≤ length s)
 sized s at c byte w h b e =
     let k : h.width ≡ w = cc (h.is_width, b, e) in

@@ -3,7 +3,7 @@
 use Prim.Native.Nat.{ℕ, zero, suc, ◌+◌, ◌-◌, ◌^◌, ◌≤◌, ◌<◌}
 use Rattle.std.proofs.Common.{add-zero, arith, ◌∙◌, length-append, length-drop, drop-drop, drop_at, get_or-drop}
 use Rattle.std.proofs.Math.Decide.{dec_le}
-use Rattle.std.specs.Prelude.{◌≡◌, Bool, if◌then◌else◌}
+use Rattle.std.specs.Prelude.{◌≡◌, Bool, if◌then◌else◌, Some}
 use Rattle.std.proofs.Math.Path.{refl, sym, ap}
 use Rattle.std.proofs.Math.Bool.{true, false}
 use mathlib.Core.List.{List, [], ◌∷◌, ◌++◌, append_assoc, append-nil}
@@ -14,7 +14,6 @@ use Rattle.masks.specs.Sets.{within}
 use Rattle.refusal.specs.Checked.{Checked, accepted, refused, and_then}
 use Rattle.refusal.specs.CheckedLaws.{not_both, accepted_same, accepted_then, accepted_if}
 use Rattle.commands.specs.declared.Found.TheVariants.{Whole}
-use Rattle.commands.specs.declared.Width.TheVariants.{Bytes}
 use Rattle.commands.specs.Commands.{FACTS, JOB, PAIRED_JOB, GOAL, END_OF_TABLE, FACTS_SIZE, GOAL_SIZE, END_OF_TABLE_SIZE, OPERANDS_AT, Past, width_of, command_at}
 use Rattle.commands.specs.CommandLaws.{at_whole}
 use Rattle.numbers.specs.Numbers.{AreBytes, to_bytes, number_at}
@@ -42,7 +41,7 @@ here s xs at x e = ap (λ (k : ℕ). get_or s k 0) (sym (add-zero at)) ∙ sym (
 -- ---- a command that stands at an offset
 
 module _ (stage : Stage) (s ops rest : List ℕ) (at byte w next : ℕ) (e : drop at s ≡ byte ∷ ops ++ rest) (size : length ops ≡ w)
-    (known : width_of byte ≡ Bytes w) (fits : allowed stage byte ≡ true) (n : at + 1 + w ≡ next) where
+    (known : width_of byte ≡ Some w) (fits : allowed stage byte ≡ true) (n : at + 1 + w ≡ next) where
   due_here : accepted (record { value = byte; next = next }) ≡ due stage s at
   due_here =
       let l : length s - at ≡ suc (length (ops ++ rest)) = sym (length-drop at s) ∙ ap length e in

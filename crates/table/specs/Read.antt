@@ -2,9 +2,10 @@
 -- document 02, W3, 19, and W10, 22).
 -- "In a table, earlier commands come first; within one, the command byte (1, 2), then its operands' presence (1), then 3 to 6."
 -- Definitions only.
-use Rattle.std.specs.Prelude.{ℕ, zero, suc, ◌+◌, Bool, ◌&&◌, ◌||◌, List, [], ◌∷◌, ◌++◌, eqb, leb, ltb, length, get_or, if◌then◌else◌}
+use Rattle.std.specs.Prelude.{ℕ, zero, suc, ◌+◌, Bool, ◌&&◌, ◌||◌, List, [], ◌∷◌, ◌++◌, eqb, leb, ltb, length, get_or, if◌then◌else◌, Result}
 use Rattle.masks.specs.Sets.{within}
-use Rattle.refusal.specs.Checked.{Checked, accepted, refused, refused_by, and_then}
+use Rattle.refusal.specs.declared.Refusal.{Refusal}
+use Rattle.refusal.specs.Checked.{Checked, accepted, refused, and_then, answer_by}
 use Rattle.commands.specs.declared.Found.{Found}
 use Rattle.commands.specs.declared.Found.TheVariants.{Missing, Unknown, Cut, Whole}
 use Rattle.commands.specs.Commands.{FACTS, JOB, PAIRED_JOB, GOAL, END_OF_TABLE, OPERANDS_AT, Past, command_at}
@@ -16,8 +17,6 @@ use Rattle.table.specs.declared.Header.{Header}
 use Rattle.table.specs.declared.Stage.{Stage}
 use Rattle.table.specs.declared.Stage.TheVariants.{First, Middle, Last}
 use Rattle.table.specs.declared.Due.{Due}
-use Rattle.table.specs.declared.TableRead.{TableRead}
-use Rattle.table.specs.declared.JobRead.{JobRead}
 use Rattle.table.specs.Table.{Table, max_facts, max_jobs, has_pair}
 
 -- which command may stand there: FACTS first, then JOBs, of either kind, up to GOAL, then END
@@ -77,20 +76,11 @@ named_job t index place = if ltb index (length t.jobs) then accepted (get_or t.j
 
 -- ---- the answers of the code, in these terms
 
-abbrev pub due_of : Due → Checked (Past ℕ)
-due_of (Due.Command byte next) = accepted (record { value = byte; next = next })
-due_of (Due.Refused x) = refused_by x
+abbrev pub due_of : Result Due Refusal → Checked (Past ℕ)
+due_of = answer_by λ d. record { value = d.byte; next = d.next }
 
 abbrev pub header_of : Table → Header
 header_of t = record { facts = t.facts; jobs = length t.jobs; goal = t.goal; paired = has_pair t.jobs }
 
 abbrev pub headed : Checked Table → Checked Header
 headed r = and_then r λ t. accepted (header_of t)
-
-abbrev pub table_read_of : TableRead → Checked Header
-table_read_of (TableRead.Sound h) = accepted h
-table_read_of (TableRead.Refused x) = refused_by x
-
-abbrev pub job_read_of : JobRead → Checked Job
-job_read_of (JobRead.Named j) = accepted j
-job_read_of (JobRead.Refused x) = refused_by x

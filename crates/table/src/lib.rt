@@ -3,14 +3,14 @@
 #![tactic(auto)]
 
 ghost use Rattle.std.specs.Prelude.{◌≡◌, ◌+◌, ◌≤◌, ◌<◌, length, get_or, ◌||◌, List, []};
-ghost use Rattle.refusal.specs.Checked.{accepted, and_then};
+ghost use Rattle.refusal.specs.Checked.{accepted, and_then, answer_of};
 ghost use Rattle.commands.specs.Commands.{GOAL_SIZE};
 ghost use Rattle.job.specs.Job.{no_job};
 ghost use Rattle.table.specs.Table.{Table, max_jobs, has_pair};
-ghost use Rattle.table.specs.Read.{allowed, due, due_of, facts_in_range, read_end, read_goal, read_jobs, read_table, jobs_of, named_job, header_of, headed, table_read_of, job_read_of};
+ghost use Rattle.table.specs.Read.{allowed, due, due_of, facts_in_range, read_end, read_goal, read_jobs, read_table, jobs_of, named_job, header_of, headed};
 
 use commands::Found;
-use job::{Job, Validated};
+use job::Job;
 use refusal::{Reason, Refusal};
 
 // The most facts and jobs that a table may have.
@@ -27,12 +27,6 @@ pub struct Header {
     pub paired: bool,
 }
 
-#[derive(Clone, Copy)]
-pub enum TableRead {
-    Sound(Header),
-    Refused(Refusal),
-}
-
 // Where in a table a command stands.
 #[derive(Clone, Copy)]
 pub enum Stage {
@@ -46,9 +40,9 @@ pub enum Stage {
 
 // A command that may stand there, with the offset past its operands.
 #[derive(Clone, Copy)]
-pub enum Due {
-    Command(u8, usize),
-    Refused(Refusal),
+struct Due {
+    byte: u8,
+    next: usize,
 }
 
 fn is_allowed(stage: Stage, byte: u8) -> bool
@@ -66,79 +60,68 @@ fn is_allowed(stage: Stage, byte: u8) -> bool
     }
 }
 
-fn refuse(reason: Reason, place: usize) -> Due
-    ensures { result ≡ Due.Refused (record { reason = reason; place = place }) }
-{
-    Due::Refused(Refusal { reason, place })
-}
-
 // The command at an offset, checked as far as its operands' presence.
-fn command_due(s: &[u8], at: usize, stage: Stage) -> Due
+fn command_due(s: &[u8], at: usize, stage: Stage) -> Result<Due, Refusal>
     ensures { due_of result ≡ due stage s.now at }
 {
     match commands::command_at(s, at) {
-        Found::Missing => refuse(Reason::TableCut, s.len()),
-        Found::Unknown => refuse(Reason::CommandNotAllowed, at),
+        Found::Missing => Err(Reason::TableCut.at(s.len())),
+        Found::Unknown => Err(Reason::CommandNotAllowed.at(at)),
         Found::Cut(cut) => {
             if is_allowed(stage, cut) {
-                refuse(Reason::TableCut, at)
+                Err(Reason::TableCut.at(at))
             } else {
-                refuse(Reason::CommandNotAllowed, at)
+                Err(Reason::CommandNotAllowed.at(at))
             }
         }
         Found::Whole(byte, next) => {
             if is_allowed(stage, byte) {
-                Due::Command(byte, next)
+                Ok(Due { byte, next })
             } else {
-                refuse(Reason::CommandNotAllowed, at)
+                Err(Reason::CommandNotAllowed.at(at))
             }
         }
     }
-}
-
-fn refused(reason: Reason, place: usize) -> TableRead
-    ensures { result ≡ TableRead.Refused (record { reason = reason; place = place }) }
-{
-    TableRead::Refused(Refusal { reason, place })
 }
 
 // END at an offset, and nothing after it.
 #[tactic(auto, using(crate::proofs::ReadLaws::end_inside, crate::proofs::ReadLaws::end_refused, crate::proofs::ReadLaws::end_whole, crate::proofs::ReadLaws::end_more))]
-fn read_end(s: &[u8], header: Header, at: usize) -> TableRead
-    ensures { (t : Table) → header_of t ≡ header → table_read_of result ≡ headed (read_end s.now t at) }
+fn read_end(s: &[u8], header: Header, at: usize) -> Result<Header, Refusal>
+    ensures { (t : Table) → header_of t ≡ header → answer_of result ≡ headed (read_end s.now t at) }
 {
-    match command_due(s, at, Stage::Last) {
-        Due::Refused(x) => TableRead::Refused(x),
-        Due::Command(_, next) => {
-            if next == s.len() {
-                TableRead::Sound(header)
-            } else {
-                refused(Reason::BytesAfterTable, next)
-            }
-        }
+    let end = command_due(s, at, Stage::Last)?;
+    if end.next != s.len() {
+        return Err(Reason::BytesAfterTable.at(end.next));
     }
+    Ok(header)
 }
 
 // GOAL at an offset, whose operand ends before `next`, after as many jobs.
-fn read_goal(s: &[u8], facts: u8, jobs: usize, paired: bool, at: usize, next: usize) -> TableRead
+fn read_goal(
+    s: &[u8],
+    facts: u8,
+    jobs: usize,
+    paired: bool,
+    at: usize,
+    next: usize,
+) -> Result<Header, Refusal>
     requires { at + GOAL_SIZE ≤ length s.now }
-    ensures { (js : List Job) → length js ≡ jobs → has_pair js ≡ paired → table_read_of result ≡ headed (read_goal s.now facts js at next) }
+    ensures { (js : List Job) → length js ≡ jobs → has_pair js ≡ paired → answer_of result ≡ headed (read_goal s.now facts js at next) }
 {
     let goal = numbers::read_u64(s, at + commands::OPERANDS_AT);
-    if masks::is_within(facts, goal) {
-        read_end(
-            s,
-            Header {
-                facts,
-                jobs,
-                goal,
-                paired,
-            },
-            next,
-        )
-    } else {
-        refused(Reason::TableMaskOutOfRange, at)
+    if !masks::is_within(facts, goal) {
+        return Err(Reason::TableMaskOutOfRange.at(at));
     }
+    read_end(
+        s,
+        Header {
+            facts,
+            jobs,
+            goal,
+            paired,
+        },
+        next,
+    )
 }
 
 // Has one of the jobs before, or this one, the command with absent facts?
@@ -149,38 +132,26 @@ fn with_pair(before: bool, job: Job) -> bool
 }
 
 // The JOBs from an offset on, then GOAL and END.
-fn read_jobs(s: &[u8], facts: u8, first: usize) -> TableRead
-    ensures { table_read_of result ≡ headed (read_jobs s.now facts max_jobs [] first) }
+fn read_jobs(s: &[u8], facts: u8, first: usize) -> Result<Header, Refusal>
+    ensures { answer_of result ≡ headed (read_jobs s.now facts max_jobs [] first) }
 {
     let mut at = first;
     let mut jobs: usize = 0;
     let mut paired = false;
     loop {
-        match command_due(s, at, Stage::Middle) {
-            Due::Refused(x) => {
-                return TableRead::Refused(x);
-            }
-            Due::Command(byte, next) => {
-                if byte == commands::GOAL {
-                    return read_goal(s, facts, jobs, paired, at, next);
-                }
-                if jobs == MAX_JOBS {
-                    return refused(Reason::TooManyJobs, at);
-                }
-                let past = job::job_from(s, at);
-                let job = past.job;
-                match job::validate_job(facts, at, job) {
-                    Validated::Refused(x) => {
-                        return TableRead::Refused(x);
-                    }
-                    Validated::Sound => {
-                        at = next;
-                        jobs += 1;
-                        paired = with_pair(paired, job);
-                    }
-                }
-            }
+        let due = command_due(s, at, Stage::Middle)?;
+        if due.byte == commands::GOAL {
+            return read_goal(s, facts, jobs, paired, at, due.next);
         }
+        if jobs == MAX_JOBS {
+            return Err(Reason::TooManyJobs.at(at));
+        }
+        let past = job::job_from(s, at);
+        let job = past.job;
+        job::validate_job(facts, at, job)?;
+        at = due.next;
+        jobs += 1;
+        paired = with_pair(paired, job);
     }
 }
 
@@ -194,20 +165,15 @@ pub fn facts_in_range(facts: usize) -> bool
 }
 
 // Reads a table: any bytes.
-pub fn read_table(s: &[u8]) -> TableRead
-    ensures { table_read_of result ≡ headed (read_table s.now) }
+pub fn read_table(s: &[u8]) -> Result<Header, Refusal>
+    ensures { answer_of result ≡ headed (read_table s.now) }
 {
-    match command_due(s, 0, Stage::First) {
-        Due::Refused(x) => TableRead::Refused(x),
-        Due::Command(_, next) => {
-            let facts = s[commands::OPERANDS_AT];
-            if facts_in_range(facts as usize) {
-                read_jobs(s, facts, next)
-            } else {
-                refused(Reason::FactCountOutOfRange, 0)
-            }
-        }
+    let due = command_due(s, 0, Stage::First)?;
+    let facts = s[commands::OPERANDS_AT];
+    if !facts_in_range(facts as usize) {
+        return Err(Reason::FactCountOutOfRange.at(0));
     }
+    read_jobs(s, facts, due.next)
 }
 
 // A job of a sound table: jobs are walked from the first on, since each stands past the one before.
@@ -216,44 +182,29 @@ fn job_at(table: &[u8], index: usize) -> Job
     ensures { result ≡ get_or (jobs_of (read_table table.now)) index no_job }
 {
     let mut at: usize = commands::FACTS_SIZE;
-    let mut i: usize = 0;
-    while i < index {
+    for _ in 0..index {
         let past = job::job_from(table, at);
         at = past.next;
-        i += 1;
     }
     let past = job::job_from(table, at);
     past.job
 }
 
-#[derive(Clone, Copy)]
-pub enum JobRead {
-    Named(Job),
-    Refused(Refusal),
-}
-
 // A job by its number, of a table that was read already; `place` is told where no job has the number.
-pub fn named_job(table: &[u8], header: Header, index: usize, place: usize) -> JobRead
+pub fn named_job(table: &[u8], header: Header, index: usize, place: usize) -> Result<Job, Refusal>
     requires { accepted header ≡ headed (read_table table.now) }
-    ensures { (t : Table) → accepted t ≡ read_table table.now → job_read_of result ≡ named_job t index place }
+    ensures { (t : Table) → accepted t ≡ read_table table.now → answer_of result ≡ named_job t index place }
 {
-    let jobs = header.jobs;
-    if index < jobs {
-        JobRead::Named(job_at(table, index))
-    } else {
-        JobRead::Refused(Refusal {
-            reason: Reason::NoSuchJob,
-            place,
-        })
+    if index >= header.jobs {
+        return Err(Reason::NoSuchJob.at(place));
     }
+    Ok(job_at(table, index))
 }
 
 // A job by its number: any bytes, any number.
-pub fn read_job(table: &[u8], index: usize) -> JobRead
-    ensures { job_read_of result ≡ and_then (read_table table.now) (λ t. named_job t index 0) }
+pub fn read_job(table: &[u8], index: usize) -> Result<Job, Refusal>
+    ensures { answer_of result ≡ and_then (read_table table.now) (λ t. named_job t index 0) }
 {
-    match read_table(table) {
-        TableRead::Refused(x) => JobRead::Refused(x),
-        TableRead::Sound(header) => named_job(table, header, index, 0),
-    }
+    let header = read_table(table)?;
+    named_job(table, header, index, 0)
 }

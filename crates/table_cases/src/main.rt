@@ -5,8 +5,8 @@
 use job::Job;
 use refusal::Refusal;
 use std::io;
-use table::{JobRead, TableRead};
-use table_writer::TableWritten;
+use table_writer::NotWritten;
+use table_writer::columns::Columns;
 
 fn number(rt: &impl Print, n: usize) -> io::Result<()> {
     print!(rt; " {n}")
@@ -18,15 +18,14 @@ fn mask(rt: &impl Print, m: u64) -> io::Result<()> {
 
 fn show_refusal(rt: &impl Print, x: Refusal) -> io::Result<()> {
     print!(rt; "refused")?;
-    let reason = x.reason;
-    number(rt, refusal::number(reason) as usize)?;
+    number(rt, u8::from(x.reason) as usize)?;
     number(rt, x.place)
 }
 
 // One line: what reading the bytes answers.
 fn show(rt: &impl Print, s: &[u8]) -> io::Result<()> {
     match table::read_table(s) {
-        TableRead::Sound(header) => {
+        Ok(header) => {
             print!(rt; "table")?;
             number(rt, header.facts as usize)?;
             number(rt, header.jobs)?;
@@ -35,7 +34,7 @@ fn show(rt: &impl Print, s: &[u8]) -> io::Result<()> {
                 print!(rt; " paired")?;
             }
         }
-        TableRead::Refused(x) => {
+        Err(x) => {
             show_refusal(rt, x)?;
         }
     }
@@ -59,18 +58,16 @@ fn show_job(rt: &impl Print, i: usize, job: Job) -> io::Result<()> {
 
 // One line for each of the first `count` job numbers.
 fn show_jobs(rt: &impl Print, s: &[u8], count: usize) -> io::Result<()> {
-    let mut i: usize = 0;
-    while i < count {
+    for i in 0..count {
         match table::read_job(s, i) {
-            JobRead::Named(job) => {
+            Ok(job) => {
                 show_job(rt, i, job)?;
             }
-            JobRead::Refused(x) => {
+            Err(x) => {
                 show_refusal(rt, x)?;
             }
         }
         print!(rt; "\n")?;
-        i += 1;
     }
     Ok(())
 }
@@ -85,46 +82,42 @@ fn show_part(rt: &impl Print, s: &[u8], k: usize) -> io::Result<()> {
 
 // Every beginning of the bytes.
 fn show_cuts(rt: &impl Print, s: &[u8]) -> io::Result<()> {
-    let mut k: usize = 0;
-    while k < s.len() {
+    for k in 0..s.len() {
         show_part(rt, s, k)?;
-        k += 1;
     }
     Ok(())
 }
 
 // Every byte changed, by flipping the bits of `flip`, one at a time.
 fn show_changes(rt: &impl Print, s: &mut [u8], flip: u8) -> io::Result<()> {
-    let mut k: usize = 0;
-    while k < s.len() {
+    for k in 0..s.len() {
         let b = s[k];
         s[k] = b ^ flip;
         show(rt, s)?;
         s[k] = b;
-        k += 1;
     }
     Ok(())
 }
 
 // What writing answers.
-fn show_written(rt: &impl Print, w: TableWritten) -> io::Result<()> {
+fn show_written(rt: &impl Print, w: Result<usize, NotWritten>) -> io::Result<()> {
     match w {
-        TableWritten::Written(n) => {
+        Ok(n) => {
             print!(rt; "written")?;
             number(rt, n)?;
         }
-        TableWritten::TooShort(n) => {
+        Err(NotWritten::TooShort(n)) => {
             print!(rt; "short")?;
             number(rt, n)?;
         }
-        TableWritten::Uneven => {
+        Err(NotWritten::Uneven) => {
             print!(rt; "uneven")?;
         }
-        TableWritten::Unwritable(i) => {
+        Err(NotWritten::Unwritable(i)) => {
             print!(rt; "unwritable")?;
             number(rt, i)?;
         }
-        TableWritten::Refused(x) => {
+        Err(NotWritten::Refused(x)) => {
             show_refusal(rt, x)?;
         }
     }
@@ -159,11 +152,9 @@ fn show_many(rt: &impl Print, count: usize, command: u8, size: usize) -> io::Res
     put(&mut out, 0, commands::FACTS);
     put(&mut out, commands::OPERANDS_AT, 64);
     let mut at: usize = commands::FACTS_SIZE;
-    let mut i: usize = 0;
-    while i < count {
+    for _ in 0..count {
         put(&mut out, at, command);
         at += size;
-        i += 1;
     }
     show_part(rt, &out, at)?;
     show_part(rt, &out, at - 1)?;
@@ -176,11 +167,8 @@ fn show_many(rt: &impl Print, count: usize, command: u8, size: usize) -> io::Res
 
 // The command at an offset replaced by each command byte in turn, and then by its own again.
 fn show_commands(rt: &impl Print, s: &mut [u8], at: usize, own: u8) -> io::Result<()> {
-    let mut k: usize = 0;
-    while k < commands::COUNT {
-        let c = commands::COMMANDS[k];
+    for c in commands::COMMANDS {
         show_with(rt, s, at, c.byte)?;
-        k += 1;
     }
     put(s, at, own);
     Ok(())
@@ -202,7 +190,17 @@ fn show_columns(
     show_written(
         rt,
         table_writer::write_table(
-            facts, &commands, &needs, &absent, &adds, &deletes, &seconds, goal, out,
+            facts,
+            Columns {
+                commands: &commands,
+                needs: &needs,
+                absent: &absent,
+                adds: &adds,
+                deletes: &deletes,
+                seconds: &seconds,
+            },
+            goal,
+            out,
         ),
     )
 }
@@ -272,16 +270,21 @@ fn show_refused(rt: &impl Print, out: &mut [u8]) -> io::Result<()> {
 
 // Columns of different length, beside a row that cannot be written, and a slice that is one byte too short.
 fn show_misfits(rt: &impl Print, out: &mut [u8]) -> io::Result<()> {
-    let commands = NO_JOB;
-    let needs = NEEDS;
-    let absent = NONE;
     let four = [0x02u64, 0x01, 0x04, 0x08];
-    let deletes = DELETES;
-    let seconds = SECONDS;
     show_written(
         rt,
         table_writer::write_table(
-            5, &commands, &needs, &absent, &four, &deletes, &seconds, 0x10, out,
+            5,
+            Columns {
+                commands: &NO_JOB,
+                needs: &NEEDS,
+                absent: &NONE,
+                adds: &four,
+                deletes: &DELETES,
+                seconds: &SECONDS,
+            },
+            0x10,
+            out,
         ),
     )?;
     let mut short = [0u8; 146];

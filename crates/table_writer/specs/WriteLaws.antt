@@ -6,48 +6,41 @@ use Rattle.std.proofs.Common.{zero-add, sym, ap, ◌∙◌, append_assoc, length
 use Rattle.std.proofs.Math.Numerals.{add-one}
 use Rattle.std.proofs.Math.Decide.{dec_lt}
 use native.Mathlib.Omega.{arith}
-use Rattle.std.specs.Prelude.{◌≡◌, Bool, true, false, ◌&&◌, List, [], ◌∷◌, ◌++◌, T, eqb, leb, get_or, set, take, drop, if◌then◌else◌}
+use Rattle.std.specs.Prelude.{◌≡◌, Bool, true, false, ◌&&◌, List, [], ◌∷◌, ◌++◌, T, eqb, leb, get_or, set, take, drop, if◌then◌else◌, Option, Some, None, Result, Ok, Err, IsErrAnd}
 use Rattle.std.proofs.Math.Path.{refl}
 use borrow.Author.Tests.{eqb-true, le-leb, lt-leb, leb-true}
 use Rattle.std.proofs.Math.ListN.{length, get_or-eq_default}
 use Rattle.std.proofs.lemmas.List.Edits.{sets, sets-eq}
-use Rattle.std.proofs.Math.Seq.{drop-cons, take-suc, take_all}
+use Rattle.std.proofs.Math.Seq.{length-sets, drop-cons, take-suc, take_all}
 use Rattle.base.specs.Bools.{holds, is_true, and_left, and_right}
 use Rattle.base.specs.Lists.{length_prefix, get_d_prefix}
 use Rattle.masks.specs.Sets.{within}
 use Rattle.refusal.specs.declared.Refusal.{Refusal}
 use Rattle.refusal.specs.Checked.{Checked, accepted, refused, refused_by}
 use Rattle.refusal.specs.CheckedLaws.{not_both, accepted_same}
-use Rattle.commands.specs.Commands.{FACTS, JOB, PAIRED_JOB, GOAL, END_OF_TABLE, FACTS_SIZE, PAIRED_JOB_SIZE, GOAL_SIZE, END_OF_TABLE_SIZE, OPERANDS_AT, ABSENT_AT, ADDS_AT, PAIRED_ADDS_AT, MASK_WIDTH}
+use Rattle.commands.specs.Commands.{FACTS, JOB, PAIRED_JOB, GOAL, END_OF_TABLE, FACTS_SIZE, JOB_SIZE, PAIRED_JOB_SIZE, GOAL_SIZE, END_OF_TABLE_SIZE, OPERANDS_AT, ABSENT_AT, ADDS_AT, PAIRED_ADDS_AT, MASK_WIDTH}
 use Rattle.numbers.specs.Numbers.{to_bytes}
 use Rattle.numbers.specs.NumberLaws.{sets_after, to_length}
 use Rattle.job.specs.declared.Job.{Job}
 use Rattle.job.specs.Job.{no_job, effect_bytes, command_by, operands_by, job_bytes, job_size, StorableJob}
 use Rattle.job.specs.Validation.{validated_job}
+use Rattle.job.proofs.JobLaws.{size_by, job_size_is, size_least}
 use Rattle.table.specs.Table.{Table, max_facts, max_jobs, jobs_bytes, goal_bytes, table_bytes, offset_of, goal_offset}
 use Rattle.table.specs.Read.{facts_in_range}
 use Rattle.table.specs.Sound.{Storable, validated_from, validated_table}
 use Rattle.table.proofs.RoundTripLaws.{read_written, validated_table_sound}
-use Rattle.table.proofs.OffsetLaws.{jobs_snoc, last_offset, next_offset, offset_small}
-use Rattle.table_writer.specs.declared.FoundRow.{FoundRow}
-use Rattle.table_writer.specs.declared.FoundRow.TheVariants.{At, Nowhere}
-use Rattle.table_writer.specs.declared.TableWritten.{TableWritten}
-use Rattle.table_writer.specs.Write.{JobColumns, writable, unwritable_from, even, first_unwritable, row_at, rows, table_of, writing, lent_after, table_written_of, Wrote, placed}
+use Rattle.table.proofs.OffsetLaws.{first_offset, offset_within, jobs_snoc, last_offset, next_offset, offset_small}
+use Rattle.table_writer.specs.declared.NotWritten.{NotWritten}
+use Rattle.table_writer.specs.Columns.{JobColumns, ColumnsFit, EvenColumns, writable, unwritable_from, even, first_unwritable, row_at, rows}
+use Rattle.table_writer.specs.Write.{table_of, writing, lent_after, table_written_of, Wrote, placed}
 
 -- ---- even columns
 
-pub record EvenColumns (c : JobColumns) : Type 0 where
-  pub needs_long : length c.needs ≡ length c.commands
-  pub absent_long : length c.absent ≡ length c.commands
-  pub adds_long : length c.adds ≡ length c.commands
-  pub deletes_long : length c.deletes ≡ length c.commands
-  pub seconds_long : length c.seconds ≡ length c.commands
-
-pub even_told : (c : JobColumns) → even c ≡ true → EvenColumns c
+pub even_told : (c : JobColumns) → true ≡ even c → EvenColumns c
 unfolding even
 even_told c e =
     let as_long : List ℕ → Bool = λ column. eqb (length column) (length c.commands) in
-    let needs = holds _ e in
+    let needs = holds _ (sym e) in
     let absent = and_right (as_long c.needs) _ needs in
     let adds = and_right (as_long c.absent) _ absent in
     let deletes = and_right (as_long c.adds) _ adds in
@@ -62,20 +55,20 @@ even_told c e =
 
 -- ---- the first row that cannot be written
 
-nowhere_if : (t : Bool) (later : FoundRow) (i : ℕ) → (if t then later else At i) ≡ Nowhere → (t ≡ true) × (later ≡ Nowhere)
+nowhere_if : (t : Bool) (later : Option ℕ) (i : ℕ) → (if t then later else Some i) ≡ None → (t ≡ true) × (later ≡ None)
 nowhere_if true later i e = (refl, e)
 nowhere_if false later i e = let z : ◌≡◌ {A = ℕ} 0 1 = cc in absurd (omega arith)
 
 module _ (commands absent : List ℕ) where
   -- the first one from row i on, up to the last row
-  abbrev pub unwritable_left : ℕ → FoundRow
+  abbrev pub unwritable_left : ℕ → Option ℕ
   unwritable_left i = unwritable_from commands absent (length commands - i) i
 
   module _ (i : ℕ) (h : i < length commands) where
     one_left : length commands - i ≡ suc (length commands - (i + 1))
     one_left = omega arith
 
-    pub row_unwritable : writable (get_or commands i 0) (get_or absent i 0) ≡ false → At i ≡ unwritable_left i
+    pub row_unwritable : writable (get_or commands i 0) (get_or absent i 0) ≡ false → Some i ≡ unwritable_left i
     unfolding unwritable_from
     row_unwritable e = rw (one_left, e)
 
@@ -83,12 +76,12 @@ module _ (commands absent : List ℕ) where
     unfolding unwritable_from
     row_writable e = rw (one_left, e, add-one i)
 
-  pub none_left : (i : ℕ) → length commands ≤ i → Nowhere ≡ unwritable_left i
+  pub none_left : (i : ℕ) → length commands ≤ i → None ≡ unwritable_left i
   unfolding unwritable_from
   none_left i h = let z : length commands - i ≡ 0 = omega arith in rw z
 
   -- where none is found, every row can be written
-  pub all_writable : (count i k : ℕ) → unwritable_from commands absent count i ≡ Nowhere → k < count → writable (get_or commands (i + k) 0) (get_or absent (i + k) 0) ≡ true
+  pub all_writable : (count i k : ℕ) → unwritable_from commands absent count i ≡ None → k < count → writable (get_or commands (i + k) 0) (get_or absent (i + k) 0) ≡ true
   unfolding unwritable_from
   all_writable zero i k e h = absurd (omega arith)
   all_writable (suc count) i zero e h = rw add-zero (nowhere_if _ _ i e).0
@@ -118,6 +111,15 @@ pub effects_stored : (l adds deletes out : List ℕ) (at : ℕ) (j : Job) → ad
     → deletes ≡ sets adds (at + MASK_WIDTH) (to_bytes 8 j.deletes) → out ≡ sets deletes (at + MASK_WIDTH + MASK_WIDTH) (to_bytes 2 j.seconds) → out ≡ sets l at (effect_bytes j)
 effects_stored l adds deletes out at j a d s = rw (s, d, a) (effects_written l at j)
 
+pub plain_size : (j : Job) → j.paired ≡ false → job_size j ≡ JOB_SIZE
+plain_size j p = job_size_is j ∙ ap size_by p
+
+pub paired_size : (j : Job) → j.paired ≡ true → job_size j ≡ PAIRED_JOB_SIZE
+paired_size j p = job_size_is j ∙ ap size_by p
+
+pub least_size : (j : Job) → JOB_SIZE ≤ job_size j
+least_size j = rw job_size_is (size_least j.paired)
+
 -- the bytes of a job of either kind, after its command's byte and its needs
 module _ (l needs : List ℕ) (at command : ℕ) (j : Job) (n : needs ≡ sets (set l at command) (at + OPERANDS_AT) (to_bytes 8 j.needs)) (c : command ≡ command_by j.paired) where
   begun : needs ≡ sets l at (command ∷ to_bytes 8 j.needs)
@@ -146,17 +148,47 @@ goal_written l at goal =
     rw (sets_after l (GOAL ∷ []) (to_bytes 8 goal) at (at + OPERANDS_AT) refl)
     (sets_after l (GOAL ∷ to_bytes 8 goal) (END_OF_TABLE ∷ []) at (at + GOAL_SIZE) (omega (arith, to_length 8 goal)))
 
--- where the job after a row stands
-pub row_ends : (js : List Job) (row : Job) (i at : ℕ) → i < length js → at ≡ offset_of js i → row ≡ get_or js i no_job → at + job_size row ≡ offset_of js (i + 1)
-row_ends js row i at h e r = rw (r, e, add-one i) (sym (next_offset js i h))
+-- ---- the jobs of the rows
 
--- one job more in the lent slice
-pub row_written : (js : List Job) (l out : List ℕ) (row : Job) (i at : ℕ) → i < length js → at ≡ offset_of js i → row ≡ get_or js i no_job
-    → out ≡ sets l FACTS_SIZE (jobs_bytes (take i js)) → sets out at (job_bytes row) ≡ sets l FACTS_SIZE (jobs_bytes (take (i + 1) js))
-unfolding offset_of
-row_written js l out row i at h e r o =
-    rw (o, r, add-one i, take-suc js i no_job h, jobs_snoc (take i js) (get_or js i no_job))
-    (sets_after l (jobs_bytes (take i js)) (job_bytes (get_or js i no_job)) FACTS_SIZE at (sym e))
+module _ (c : JobColumns) where
+  rows_length : length (rows c) ≡ length c.commands
+  rows_length = length_prefix (row_at c) (length c.commands)
+
+  row_of : (i : ℕ) → i < length c.commands → get_or (rows c) i no_job ≡ row_at c i
+  row_of i h = get_d_prefix (row_at c) (length c.commands) i no_job h
+
+  -- where the job after a row stands
+  row_ends : (i at : ℕ) (row : Job) → i < length c.commands → at ≡ offset_of (rows c) i → row ≡ row_at c i → at + job_size row ≡ offset_of (rows c) (i + 1)
+  row_ends i at row h e r = let inside : i < length (rows c) = omega (arith, rows_length) in rw (r, e, add-one i, next_offset (rows c) i inside, row_of i h)
+
+-- what is stored before a row: the bytes of the rows before it, and its own would stand at the offset
+pub record StoredTo (c : JobColumns) (before out : List ℕ) (i at : ℕ) : Type 0 where
+  pub stands : at ≡ offset_of (rows c) i
+  pub stored : out ≡ sets before FACTS_SIZE (jobs_bytes (take i (rows c)))
+
+pub none_stored : (c : JobColumns) (before : List ℕ) → StoredTo c before before 0 FACTS_SIZE
+unfolding jobs_bytes
+none_stored c before = record { stands = sym (first_offset (rows c)); stored = refl }
+
+module _ {c : JobColumns} {before out : List ℕ} {i at : ℕ} (s : StoredTo c before out i at) where
+  pub stored_all : length c.commands ≤ i → out ≡ sets before FACTS_SIZE (jobs_bytes (rows c))
+  stored_all h = s.stored ∙ rw (take_all i (rows c) (omega (arith, rows_length c)))
+
+  module _ (h : i < length c.commands) (row : Job) (r : row ≡ row_at c i) where
+    pub row_inside : FACTS_SIZE + length (jobs_bytes (rows c)) ≤ length before → at + job_size row ≤ length out
+    row_inside l = omega (arith, row_ends c i at row h s.stands r, offset_within (rows c) (i + 1), ap length s.stored, length-sets before FACTS_SIZE (jobs_bytes (take i (rows c))))
+
+    pub row_stored : (next : ℕ) → next ≡ at + job_size row → (after : List ℕ) → after ≡ sets out at (job_bytes row) → StoredTo c before after (i + 1) next
+    unfolding offset_of
+    row_stored next n after a =
+        let inside : i < length (rows c) = omega (arith, rows_length c) in
+        record {
+          stands = n ∙ row_ends c i at row h s.stands r;
+          stored =
+              a
+              ∙ rw (s.stored, add-one i, take-suc (rows c) i no_job inside, row_of c i h, r, jobs_snoc (take i (rows c)) (row_at c i))
+              (sets_after before (jobs_bytes (take i (rows c))) (job_bytes (row_at c i)) FACTS_SIZE at (sym s.stands));
+        }
 
 goal_length : (goal : ℕ) → length (goal_bytes goal) ≡ GOAL_SIZE + END_OF_TABLE_SIZE
 unfolding goal_bytes to_bytes
@@ -179,47 +211,66 @@ table_written l jobs out t at size e z h j g =
 -- ---- the checks, one job after another
 
 -- what the checks come to from job i on, which would stand at the offset
-abbrev pub remaining : ℕ → ℕ → List Job → ℕ → ℕ → Checked Table
+abbrev remaining : ℕ → ℕ → List Job → ℕ → ℕ → Checked Table
 remaining facts goal js i at = validated_from facts goal (max_jobs - i) (take i js) (drop i js) at
 
-module _ (facts goal : ℕ) (js : List Job) (i at : ℕ) where
-  module _ (h : i < length js) where
-    pub turn_full : i ≡ max_jobs → refused 4 at ≡ remaining facts goal js i at
+-- the rows before this one passed: the checks from it on come to what those of the whole table come to
+pub record PassedTo (c : JobColumns) (facts goal i at : ℕ) : Type 0 where
+  pub few : i ≤ max_jobs
+  pub stands : at ≡ offset_of (rows c) i
+  pub comes_to : remaining facts goal (rows c) i at ≡ validated_table (table_of c facts goal)
+
+pub no_facts : (t : Table) → facts_in_range t.facts ≡ false → refused 3 0 ≡ placed (validated_table t)
+unfolding validated_table
+no_facts t e = rw e
+
+pub none_passed : (c : JobColumns) (facts goal : ℕ) → true ≡ facts_in_range facts → PassedTo c facts goal 0 FACTS_SIZE
+unfolding validated_table
+none_passed c facts goal e = record { few = omega arith; stands = sym (first_offset (rows c)); comes_to = rw (← e) }
+
+module _ {c : JobColumns} {facts goal i at : ℕ} (p : PassedTo c facts goal i at) where
+  module _ (h : i < length c.commands) where
+    more : drop i (rows c) ≡ row_at c i ∷ drop (suc i) (rows c)
+    more = let inside : i < length (rows c) = omega (arith, rows_length c) in drop-cons (rows c) i no_job inside ∙ rw (row_of c i h)
+
+    pub too_many : i ≡ max_jobs → refused 4 at ≡ placed (validated_table (table_of c facts goal))
     unfolding validated_from
-    turn_full e = let z : max_jobs - i ≡ 0 = omega arith in rw (z, drop-cons js i no_job h)
+    too_many e = let z : max_jobs - i ≡ 0 = omega arith in rw (← p.comes_to, z, more)
 
-    module _ (l : i < max_jobs) (row : Job) (r : row ≡ get_or js i no_job) where
-      one_more : max_jobs - i ≡ suc (max_jobs - (i + 1))
-      one_more = omega arith
+    module _ (l : i ≡ max_jobs → ⊥) (row : Job) (r : row ≡ row_at c i) where
+      left : max_jobs - i ≡ suc (max_jobs - (i + 1))
+      left = omega (arith, p.few)
 
-      pub turn_bad : (n p : ℕ) → refused n p ≡ validated_job facts at row → refused n p ≡ remaining facts goal js i at
+      pub row_refused : (x : Refusal) → refused_by x ≡ validated_job facts at row → refused_by x ≡ placed (validated_table (table_of c facts goal))
       unfolding validated_from
-      turn_bad n p e = rw (one_more, drop-cons js i no_job h, ← r, ← e)
+      row_refused x e = rw (← p.comes_to, left, more, ← r, ← e)
 
-      pub turn_more : accepted row ≡ validated_job facts at row → remaining facts goal js (i + 1) (at + job_size row) ≡ remaining facts goal js i at
+      pub row_passed : accepted row ≡ validated_job facts at row → PassedTo c facts goal (i + 1) (at + job_size row)
       unfolding validated_from
-      turn_more e = rw (one_more, drop-cons js i no_job h, ← r, ← e, add-one i, take-suc js i no_job h, ← r)
+      row_passed e =
+          let inside : i < length (rows c) = omega (arith, rows_length c) in
+          record {
+            few = omega (arith, p.few);
+            stands = row_ends c i at row h p.stands r;
+            comes_to = rw (← p.comes_to, left, more, ← r, ← e, add-one i, take-suc (rows c) i no_job inside, row_of c i h, ← r);
+          }
 
-  module _ (h : i ≡ length js) where
-    over : drop i js ≡ []
-    over = drop_of_length-le js {i = i} (omega arith)
+  pub passed_small : at ≤ FACTS_SIZE + PAIRED_JOB_SIZE * max_jobs
+  passed_small = omega (arith, p.few, p.stands, offset_small (rows c) i)
 
-    pub turn_goal_out : within facts goal ≡ false → refused 5 at ≡ remaining facts goal js i at
+  module _ (h : length c.commands ≤ i) (n : i ≤ length c.commands) where
+    over : drop i (rows c) ≡ []
+    over = drop_of_length-le (rows c) {i = i} (omega (arith, rows_length c))
+
+    pub goal_refused : within facts goal ≡ false → refused 5 at ≡ placed (validated_table (table_of c facts goal))
     unfolding validated_from
-    turn_goal_out e = rw (over, e)
+    goal_refused e = rw (← p.comes_to, over, e)
 
-    pub turn_goal_in : within facts goal ≡ true → accepted (record { facts = facts; jobs = js; goal = goal }) ≡ remaining facts goal js i at
+    pub all_passed : within facts goal ≡ true → accepted at ≡ placed (validated_table (table_of c facts goal))
     unfolding validated_from
-    turn_goal_in e = rw (over, e, take_all i js (omega arith))
-
-module _ (t : Table) where
-  pub validated_no_facts : facts_in_range t.facts ≡ false → refused 3 0 ≡ validated_table t
-  unfolding validated_table
-  validated_no_facts e = rw e
-
-  pub validated_facts : facts_in_range t.facts ≡ true → remaining t.facts t.goal t.jobs 0 FACTS_SIZE ≡ validated_table t
-  unfolding validated_table
-  validated_facts e = rw e
+    all_passed e =
+        let whole : i ≡ length (rows c) = omega (arith, rows_length c) in
+        rw (← p.comes_to, over, e, take_all i (rows c) (omega (arith, whole)), p.stands, whole, last_offset (table_of c facts goal))
 
 -- a number of facts in range fits its byte
 pub facts_small : (facts : ℕ) → facts_in_range facts ≡ true → facts ≤ max_facts
@@ -229,7 +280,7 @@ facts_small facts e = leb-true facts max_facts (is_true _ (and_right (leb 1 fact
 pub record Passed (t : Table) (at : ℕ) : Type 0 where
   pub is_sound : accepted t ≡ validated_table t
   pub is_place : at ≡ goal_offset t
-  pub facts_fit : t.facts ≤ max_facts
+  pub few_facts : t.facts ≤ max_facts
   pub is_small : at ≤ FACTS_SIZE + PAIRED_JOB_SIZE * max_jobs
 
 pub placed_sound : (t : Table) (at : ℕ) → accepted at ≡ placed (validated_table t) → Passed t at
@@ -242,7 +293,7 @@ placed_sound t at e = by (validated_table t) refl e
         record {
           is_sound = ap accepted v.0 ∙ sym q;
           is_place = place;
-          facts_fit = facts_small t.facts v.1.facts_range_held;
+          few_facts = facts_small t.facts v.1.facts_range_held;
           is_small = omega (arith, place, last_offset t, offset_small t.jobs (length t.jobs), v.1.few);
         }
     by (refused n p) q r = absurd (not_both (sym r))
@@ -256,23 +307,9 @@ placed_refused t n p e = by (validated_table t) e
 
 -- ---- jobs out of columns
 
--- the numbers of the columns are those that their slices can hold
-pub record ColumnsFit (c : JobColumns) : Type 0 where
-  pub needs_fit : (i : ℕ) → get_or c.needs i 0 < 2 ^ 64
-  pub absent_fit : (i : ℕ) → get_or c.absent i 0 < 2 ^ 64
-  pub adds_fit : (i : ℕ) → get_or c.adds i 0 < 2 ^ 64
-  pub deletes_fit : (i : ℕ) → get_or c.deletes i 0 < 2 ^ 64
-  pub seconds_fit : (i : ℕ) → get_or c.seconds i 0 < 2 ^ 16
-
 module _ (c : JobColumns) where
-  pub rows_length : length (rows c) ≡ length c.commands
-  rows_length = length_prefix (row_at c) (length c.commands)
-
-  pub row_of : (i : ℕ) → i < length c.commands → row_at c i ≡ get_or (rows c) i no_job
-  row_of i h = sym (get_d_prefix (row_at c) (length c.commands) i no_job h)
-
   -- rows that can be written make a table that can be stored
-  pub columns_storable : (facts goal : ℕ) → ColumnsFit c → goal < 2 ^ 64 → first_unwritable c ≡ Nowhere → facts < 256 → Storable (table_of c facts goal)
+  pub columns_storable : (facts goal : ℕ) → ColumnsFit c → goal < 2 ^ 64 → first_unwritable c ≡ None → facts < 256 → Storable (table_of c facts goal)
   columns_storable facts goal f g w hf = record { facts_fit = hf; jobs_fit = each; goal_fits = g }
     where
       row : (i : ℕ) → i < length c.commands → StorableJob (row_at c i)
@@ -300,39 +337,43 @@ module _ (c : JobColumns) where
       each : (i : ℕ) → StorableJob (get_or (rows c) i no_job)
       each i =
           elim (dec_lt i (length c.commands)) [
-            | yes h ↦ rw (← row_of i h) (row i h)
+            | yes h ↦ rw (row_of c i h) (row i h)
             | no h ↦ rw (get_or-eq_default (rows c) no_job {n = i} (rw rows_length (omega arith))) blank
           ]
 
 -- ---- what comes of it, each way with the lent slice
 
-module _ (c : JobColumns) (facts goal : ℕ) (l : List ℕ) (fits : first_unwritable c ≡ Nowhere → facts < 256 → Storable (table_of c facts goal)) where
-  wrote : (r : TableWritten) (after : List ℕ) → table_written_of r ≡ writing c facts goal (length l)
+module _ {c : JobColumns} (f : ColumnsFit c) (facts goal : ℕ) (g : goal < 2 ^ 64) (l : List ℕ) where
+  wrote : (r : Result ℕ NotWritten) (after : List ℕ) → table_written_of r ≡ writing c facts goal (length l)
       → after ≡ lent_after (table_written_of r) (table_bytes (table_of c facts goal)) l → Wrote c facts goal l after r
-  wrote r after e a = record { answer = e; lent = rw (← e) a; as_read = λ w h. sym (read_written (table_of c facts goal) (fits w h)) }
+  wrote r after e a =
+      record { answer = e; lent = rw (← e) a; as_read = λ w h. sym (read_written (table_of c facts goal) (columns_storable c facts goal f g w h)) }
 
-  pub wrote_uneven : even c ≡ false → Wrote c facts goal l l TableWritten.Uneven
+  pub wrote_uneven : false ≡ even c → Wrote c facts goal l l (Err NotWritten.Uneven)
   unfolding writing
-  wrote_uneven e = wrote TableWritten.Uneven l (rw e) refl
+  wrote_uneven e = wrote (Err NotWritten.Uneven) l (rw (← e)) refl
 
-  module _ (e : even c ≡ true) where
-    pub wrote_unwritable : (i : ℕ) → first_unwritable c ≡ At i → Wrote c facts goal l l (TableWritten.Unwritable i)
+  module _ (v : true ≡ even c) where
+    pub wrote_unwritable : (i : ℕ) → Some i ≡ first_unwritable c → Wrote c facts goal l l (Err (NotWritten.Unwritable i))
     unfolding writing
-    wrote_unwritable i w = wrote (TableWritten.Unwritable i) l (rw (e, w)) refl
+    wrote_unwritable i w = wrote (Err (NotWritten.Unwritable i)) l (rw (← v, ← w)) refl
 
-    module _ (w : first_unwritable c ≡ Nowhere) where
-      pub wrote_unsound : (x : Refusal) → refused_by x ≡ validated_table (table_of c facts goal) → Wrote c facts goal l l (TableWritten.Refused x)
+    module _ (w : None ≡ first_unwritable c) where
+      -- the refusal of the checks is handed on
+      pub wrote_unsound : (x : Refusal) → refused_by x ≡ placed (validated_table (table_of c facts goal)) → (r : Result ℕ NotWritten)
+          → IsErrAnd r (λ e. e ≡ NotWritten.Refused x) → Wrote c facts goal l l r
       unfolding writing
-      wrote_unsound x j = wrote (TableWritten.Refused x) l (rw (e, w, ← j)) refl
+      wrote_unsound x j (Ok n) h = absurd h
+      wrote_unsound x j (Err e) h = rw h (wrote (Err (NotWritten.Refused x)) l (rw (← v, ← w, ← placed_refused (table_of c facts goal) _ _ j)) refl)
 
       module _ (at size : ℕ) (j : Passed (table_of c facts goal) at) (z : at + GOAL_SIZE + END_OF_TABLE_SIZE ≡ size) where
         is_size : length (table_bytes (table_of c facts goal)) ≡ size
         is_size = omega (arith, table_length (table_of c facts goal), j.is_place)
 
-        pub wrote_short : length l < size → Wrote c facts goal l l (TableWritten.TooShort size)
+        pub wrote_short : length l < size → Wrote c facts goal l l (Err (NotWritten.TooShort size))
         unfolding writing
-        wrote_short s = wrote (TableWritten.TooShort size) l (rw (e, w, ← j.is_sound, is_size, lt-leb size (length l) s)) refl
+        wrote_short s = wrote (Err (NotWritten.TooShort size)) l (rw (← v, ← w, ← j.is_sound, is_size, lt-leb size (length l) s)) refl
 
-        pub wrote_whole : size ≤ length l → (after : List ℕ) → after ≡ table_bytes (table_of c facts goal) ++ drop size l → Wrote c facts goal l after (TableWritten.Written size)
+        pub wrote_whole : size ≤ length l → (after : List ℕ) → after ≡ table_bytes (table_of c facts goal) ++ drop size l → Wrote c facts goal l after (Ok size)
         unfolding writing
-        wrote_whole s after a = wrote (TableWritten.Written size) after (rw (e, w, ← j.is_sound, is_size, le-leb size (length l) s)) a
+        wrote_whole s after a = wrote (Ok size) after (rw (← v, ← w, ← j.is_sound, is_size, le-leb size (length l) s)) a

@@ -1,27 +1,23 @@
--- `table::command_due` meets its contract: each thing that can stand at the offset is a clause of `due_in`.
-use mathlib.Core.Path.{sym, ap, ◌∙◌}
-use Rattle.table.specs.Read.{due_of}
+-- `table::command_due` meets its contract: each way through the code is a way through the definition.
+use Rattle.std.proofs.Common.{arith}
+use Rattle.std.proofs.lemmas.Grind.{common_steps}
 use Rattle.table.proofs.ReadLaws.{due_missing, due_unknown, due_cut, due_cut_other, due_whole, due_other}
 use Rattle.table.proofs.command_due.Goals as goal
 
 pub returns-in-Missing : goal.returns-in-Missing
-returns-in-Missing c = ap due_of c.refuse.ensures ∙ due_missing _ _ _ (sym c.command_at.ensures ∙ c.in-Missing.is)
+returns-in-Missing c = grind (arith, common_steps, due_missing)
 
 pub returns-in-Unknown : goal.returns-in-Unknown
-returns-in-Unknown c = ap due_of c.refuse-in-Unknown.ensures ∙ due_unknown _ _ _ (sym c.command_at.ensures ∙ c.in-Unknown.is)
+returns-in-Unknown c = grind (arith, common_steps, due_unknown)
 
 pub returns-then-is_allowed : goal.returns-then-is_allowed
-returns-then-is_allowed c =
-    ap due_of c.refuse-then-is_allowed.ensures ∙ due_cut _ _ _ _ (sym c.command_at.ensures ∙ c.in-Cut.is) (sym c.is_allowed.ensures ∙ c.if-is_allowed.true)
+returns-then-is_allowed c = grind (arith, common_steps, due_cut)
 
 pub returns-else-is_allowed : goal.returns-else-is_allowed
-returns-else-is_allowed c =
-    ap due_of c.refuse-else-is_allowed.ensures ∙ due_cut_other _ _ _ _ (sym c.command_at.ensures ∙ c.in-Cut.is) (sym c.is_allowed.ensures ∙ c.if-is_allowed.false)
+returns-else-is_allowed c = grind (arith, common_steps, due_cut_other)
 
 pub returns-then-is_allowed-2 : goal.returns-then-is_allowed-2
-returns-then-is_allowed-2 c =
-    due_whole _ _ _ _ _ (sym c.command_at.ensures ∙ c.in-Whole.is) (sym c.is_allowed-in-Whole.ensures ∙ c.if-is_allowed-2.true)
+returns-then-is_allowed-2 c = grind (arith, common_steps, due_whole)
 
 pub returns-else-is_allowed-2 : goal.returns-else-is_allowed-2
-returns-else-is_allowed-2 c =
-    ap due_of c.refuse-else-is_allowed-2.ensures ∙ due_other _ _ _ _ _ (sym c.command_at.ensures ∙ c.in-Whole.is) (sym c.is_allowed-in-Whole.ensures ∙ c.if-is_allowed-2.false)
+returns-else-is_allowed-2 c = grind (arith, common_steps, due_other)
