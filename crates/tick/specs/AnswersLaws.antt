@@ -1,10 +1,11 @@
 -- The entry points' definitions, way by way, and that they keep their promise. Equations are turned so that a function's answers chain with them.
 -- Assumes nothing.
-use Rattle.std.specs.Prelude.{ℕ, ◌≤◌, ◌<◌, ◌≡◌, Bool, true, List, length}
+use Rattle.std.specs.Prelude.{ℕ, ◌≤◌, ◌<◌, ◌≡◌, Bool, true, List, length, Result}
 use Rattle.std.proofs.Math.Path.{refl}
 use Rattle.std.proofs.Common.{sym, ap, ◌∙◌, le-leb}
 use Rattle.std.proofs.lemmas.Bool.{lt-leb}
-use Rattle.refusal.specs.Checked.{Checked, accepted, refused, and_then}
+use Rattle.refusal.specs.declared.Refusal.{Refusal}
+use Rattle.refusal.specs.Checked.{Checked, accepted, refused, and_then, answer_of}
 use Rattle.refusal.specs.CheckedLaws.{not_both, accepted_same}
 use Rattle.commands.specs.Commands.{Past}
 use Rattle.reading.specs.declared.Reading.{Reading}
@@ -12,22 +13,13 @@ use Rattle.reading.specs.Reading.{checked_at, Completes, state}
 use Rattle.table.specs.declared.Header.{Header}
 use Rattle.table.specs.Read.{read_table, headed}
 use Rattle.tree.specs.declared.Status.{Status}
-use Rattle.tree.specs.declared.Status.TheVariants.{Success, Failure, Running, Unsettled, Waiting}
 use Rattle.tree.specs.Tree.{Tree}
 use Rattle.tree.specs.ReadTree.{max_tree_bytes, max_depth, read_node, read_end, read_tree}
 use Rattle.tree.specs.Tick.{Verdict, tick_by, tick_tree}
 use Rattle.tree.specs.TickBytes.{tick_checked, tick_bytes, answered, is_settled, SettledBy}
 use Rattle.tree.specs.TickBytesLaws.{settled_checked, settled_bytes, bytes_checked, bytes_refused}
 use Rattle.tick_walk.specs.Walk.{walked}
-use Rattle.tick.specs.declared.Ticked.{Ticked}
-use Rattle.tick.specs.Answers.{ticked_of, ticked_by, answered_by, AnswersBy, Answers, AnswersUnder}
-
-pub answer_ticked : (a : Status) → ticked_of (ticked_by a) ≡ accepted a
-answer_ticked Success = refl
-answer_ticked Failure = refl
-answer_ticked (Running job) = refl
-answer_ticked (Unsettled mask) = refl
-answer_ticked Waiting = refl
+use Rattle.tick.specs.Answers.{answered_by, AnswersBy, Answers, AnswersUnder}
 
 -- ---- a tree
 
@@ -86,7 +78,7 @@ module _ (facts jobs : ℕ) (tree : List ℕ) (place : ℕ) (r : Reading) where
 
 module _ (tick : Reading → Checked Verdict) (r : Reading)
     (stands : (v : Verdict) → tick r ≡ accepted v → is_settled v.answer ≡ true → (s : ℕ) → Completes r s → tick (state s) ≡ accepted v) where
-  answers_by : (ticked : Ticked) → ticked_of ticked ≡ answered (tick r) → AnswersBy tick r ticked
+  answers_by : (ticked : Result Status Refusal) → answer_of ticked ≡ answered (tick r) → AnswersBy tick r ticked
   answers_by ticked e = record { answer = e; settled = λ a f h. by_verdict (tick r) refl a (sym f ∙ e) h }
     where
       by_verdict : (x : Checked Verdict) → tick r ≡ x → (a : Status) → accepted a ≡ answered x → is_settled a ≡ true → SettledBy tick r a
@@ -95,12 +87,12 @@ module _ (tick : Reading → Checked Verdict) (r : Reading)
           rw same (record { leaf = v.leaf; here = e; everywhere = stands v e (rw same at h) })
       by_verdict (refused n p) e a q h = absurd (not_both (sym q))
 
-module _ (tree : List ℕ) (r : Reading) (ticked : Ticked) where
-  pub answers_under : (h : Header) (place : ℕ) → ticked_of ticked ≡ answered (tick_checked h.facts h.jobs tree place r) → AnswersUnder h tree place r ticked
+module _ (tree : List ℕ) (r : Reading) (ticked : Result Status Refusal) where
+  pub answers_under : (h : Header) (place : ℕ) → answer_of ticked ≡ answered (tick_checked h.facts h.jobs tree place r) → AnswersUnder h tree place r ticked
   answers_under h place e = answers_by (tick_checked h.facts h.jobs tree place) r (settled_checked h.facts h.jobs tree place r) ticked e
 
   module _ (table : List ℕ) where
-    pub answers_refused : (n p : ℕ) → refused n p ≡ headed (read_table table) → ticked_of ticked ≡ refused n p → Answers table tree r ticked
+    pub answers_refused : (n p : ℕ) → refused n p ≡ headed (read_table table) → answer_of ticked ≡ refused n p → Answers table tree r ticked
     answers_refused n p q e =
         answers_by (tick_bytes table tree) r (settled_bytes table tree r) ticked (e ∙ ap answered (bytes_refused table tree n p q r))
 

@@ -1,7 +1,7 @@
 -- The walk of the code: it checks each node and, while the answer is open, ticks it. One walk stands for the tree reader and the tick together.
 -- Definitions only.
-use Rattle.std.specs.Prelude.{ℕ, zero, suc, ◌-◌, ◌≤◌, ◌≡◌, Bool, true, false, ◌&&◌, List, ltb, if◌then◌else◌}
-use Rattle.refusal.specs.Checked.{Checked, accepted, refused, refused_by, and_then}
+use Rattle.std.specs.Prelude.{Result, ℕ, zero, suc, ◌-◌, ◌≤◌, ◌≡◌, Bool, true, false, ◌&&◌, List, ltb, if◌then◌else◌}
+use Rattle.refusal.specs.Checked.{answer_by, Checked, accepted, refused, and_then}
 use Rattle.commands.specs.Commands.{Past}
 use Rattle.reading.specs.declared.Reading.{Reading}
 use Rattle.tree.specs.declared.Kind.{Kind}
@@ -12,7 +12,8 @@ use Rattle.tree.specs.Tree.{Tree}
 use Rattle.tree.specs.ReadTree.{max_depth, in_range, read_node}
 use Rattle.tree.specs.Tick.{leaf_answer, goes_on, tick_by}
 use Rattle.tick_walk.specs.declared.Context.{Context}
-use Rattle.tick_walk.specs.declared.Walk.{Walk}
+use Rattle.tick_walk.specs.declared.Walked.{Walked}
+use Rattle.refusal.specs.declared.Refusal.{Refusal}
 
 -- the levels that are left for a node at a depth, the root's being 1
 abbrev pub levels_at : ℕ → ℕ
@@ -63,6 +64,5 @@ module _ (rows : List (List Bool)) where
 
 -- ---- the answer of the code, in these terms
 
-abbrev pub walk_of : Walk → Checked (Past Status)
-walk_of (Walk.Passed a next) = accepted (record { value = a; next = next })
-walk_of (Walk.Refused x) = refused_by x
+abbrev pub walk_of : Result Walked Refusal → Checked (Past Status)
+walk_of = answer_by λ w. record { value = w.status; next = w.next }

@@ -17,15 +17,13 @@ use Rattle.tree.specs.declared.Kind.{Kind}
 use Rattle.tree.specs.declared.Leaf.{Leaf}
 use Rattle.tree.specs.declared.Status.{Status}
 use Rattle.tree.specs.declared.Status.TheVariants.{Success}
-use Rattle.tree.specs.Tree as Tree
 use Rattle.tree.specs.Tree.{Tree, Row, more}
 use Rattle.tree.specs.ReadTree.{max_depth, branch, leaf, node_at, in_range, read_row, read_node}
 use Rattle.tree.specs.ReadTreeLaws.{branch_some, read_onward}
 use Rattle.tree.specs.Tick.{leaf_answer, kind_index, status_index, goes_on, Verdict, tick_by, tick_row}
 use Rattle.tree.specs.TickLaws.{row_on, row_stop}
 use Rattle.tick_walk.specs.declared.Context.{Context}
-use Rattle.tick_walk.specs.declared.Walk.{Walk}
-use Rattle.tick_walk.specs.Walk.{levels_at, answer_if, walk_leaf, walked, walk_row, nodes_at, walk_node, walk_children, RowLeft, walk_of}
+use Rattle.tick_walk.specs.Walk.{levels_at, answer_if, walk_leaf, walked, walk_row, nodes_at, walk_node, walk_children, RowLeft}
 
 -- ---- answers in a row
 
@@ -95,11 +93,11 @@ module _ (rows : List (List Bool)) (r : Reading) (kind : Kind) (child : ℕ → 
 
 module _ (rows : List (List Bool)) (s : List ℕ) (c : Context) (at depth : ℕ) (live : Bool) where
   -- 13
-  pub node_malformed : (p : ℕ) → refused 13 p ≡ node_at s at → refused 13 p ≡ walk_node rows s c at depth live
+  pub node_malformed : (n p : ℕ) → refused n p ≡ node_at s at → refused n p ≡ walk_node rows s c at depth live
   unfolding read_node
-  node_malformed p e = by_levels (levels_at depth)
+  node_malformed n p e = by_levels (levels_at depth)
     where
-      by_levels : (levels : ℕ) → refused 13 p ≡ walked rows c.reading live (read_node s c.facts c.jobs levels at)
+      by_levels : (levels : ℕ) → refused n p ≡ walked rows c.reading live (read_node s c.facts c.jobs levels at)
       by_levels zero = rw (← e)
       by_levels (suc levels) = rw (← e)
 
@@ -158,23 +156,20 @@ module _ (rows : List (List Bool)) (s : List ℕ) (c : Context) (kind : Kind) (d
     unfolding walk_row
     row_ends l = let e : left ≡ 0 = omega arith in rw e at i.is
 
-    module _ (more : 0 < left) (child : Walk) (n : walk_of child ≡ walk_node rows s c at depth going) where
+    module _ (more : 0 < left) where
       taken : left ≡ suc (left - 1)
       taken = omega arith
 
-      pub row_stops : (x : Refusal) → child ≡ Walk.Refused x → refused_by x ≡ whole
+      pub row_stops : (x : Refusal) → refused_by x ≡ walk_node rows s c at depth going → refused_by x ≡ whole
       unfolding walk_row
-      row_stops x e = by_child (nodes_at s c depth at) refl (ap walk_of (sym e) ∙ n) ∙ i.is
+      row_stops x e = by_child (nodes_at s c depth at) refl e ∙ i.is
         where
           by_child : (t : Checked (Past Tree)) → nodes_at s c depth at ≡ t → refused_by x ≡ walked rows c.reading going t
               → refused_by x ≡ walk_children rows s c kind depth left going a at
           by_child (accepted t) f q = absurd (not_both q)
           by_child (refused j k) f q = rw (taken, f) q
 
-      module _ (b : Status) (next : ℕ) (e : child ≡ Walk.Passed b next) where
-        child_is : accepted (record { value = b; next = next }) ≡ walk_node rows s c at depth going
-        child_is = ap walk_of (sym e) ∙ n
-
+      module _ (b : Status) (next : ℕ) (child_is : accepted (record { value = b; next = next }) ≡ walk_node rows s c at depth going) where
         child_onward : first ≤ next
         child_onward = by_child (nodes_at s c depth at) refl child_is
           where

@@ -43,43 +43,42 @@ pub struct Context {
     pub reading: Reading,
 }
 
-// The answer and the offset past what was walked over, or the first stop met.
+// The answer, and the offset past what was walked over.
 #[derive(Clone, Copy)]
-pub enum Walk {
-    Passed(Status, usize),
-    Refused(Refusal),
-}
-
-fn refuse(reason: Reason, place: usize) -> Walk
-    ensures { result ≡ Walk.Refused (record { reason = reason; place = place }) }
-{
-    Walk::Refused(Refusal { reason, place })
+pub struct Walked {
+    pub status: Status,
+    pub next: usize,
 }
 
 // A part that is only checked counts as passed with Success.
-fn pass(live: bool, answer: Status, next: usize) -> Walk
-    ensures { result ≡ Walk.Passed (answer_if live answer) next }
+fn pass(live: bool, answer: Status, next: usize) -> Walked
+    ensures { result ≡ record { status = answer_if live answer; next = next } }
 {
-    if live {
-        return Walk::Passed(answer, next);
-    }
-    Walk::Passed(Status::Success, next)
+    let status = if live { answer } else { Status::Success };
+    Walked { status, next }
 }
 
 // A leaf that was read at an offset, and ends before `next`; `live` says whether the tick still asks for its answer. Its kind is looked at once, before
 // the depth: it is quicker so, and the first stop is the same.
-fn tick_leaf(leaf: Leaf, at: usize, next: usize, depth: usize, live: bool, context: Context) -> Walk
+fn tick_leaf(
+    leaf: Leaf,
+    at: usize,
+    next: usize,
+    depth: usize,
+    live: bool,
+    context: Context,
+) -> Result<Walked, Refusal>
     ensures { walk_of result ≡ walk_leaf context at next depth live leaf }
 {
     let fits = tree::is_in_range(context.facts, context.jobs, leaf);
     let answer = tree::answer(context.reading, leaf);
     if depth > MAX_DEPTH {
-        return refuse(Reason::TreeTooDeep, at);
+        return Err(Reason::TreeTooDeep.at(at));
     }
     if !fits {
-        return refuse(Reason::TreeOperandOutOfRange, at);
+        return Err(Reason::TreeOperandOutOfRange.at(at));
     }
-    pass(live, answer, next)
+    Ok(pass(live, answer, next))
 }
 
 // A node with children that was read at an offset; its first child stands at `next`.
@@ -94,12 +93,12 @@ fn tick_node(
     live: bool,
     context: Context,
     rows: [[bool; 4]; 2],
-) -> Walk
+) -> Result<Walked, Refusal>
     requires { accepted (record { value = branch kind count; next = next }) ≡ node_at tree.now at }
     ensures { walk_of result ≡ walk_node rows tree.now context at depth live }
 {
     if depth > MAX_DEPTH {
-        return refuse(Reason::TreeTooDeep, at);
+        return Err(Reason::TreeTooDeep.at(at));
     }
     tick_row(tree, next, count, kind, depth + 1, live, context, rows)
 }
@@ -116,42 +115,36 @@ fn tick_row(
     live: bool,
     context: Context,
     rows: [[bool; 4]; 2],
-) -> Walk
+) -> Result<Walked, Refusal>
     ensures { walk_of result ≡ walk_children rows tree.now context kind depth count live Status.Success first }
 {
     let row = kind_index(kind);
     let mut at = first;
-    let mut left = count;
     let mut going = live;
     let mut answer = Status::Success;
-    while left > 0 {
-        let child = match tree::node_at(tree, at) {
-            NodeRead::Malformed(place) => refuse(Reason::BadTree, place),
+    for _ in 0..count {
+        let walked = match tree::node_at(tree, at)? {
             NodeRead::Leaf(leaf, next) => tick_leaf(leaf, at, next, depth, going, context),
             NodeRead::Branch(k, n, next) => tick_node(
                 tree, at, next, k, n, depth, going, context, rows,
             ),
         };
-        match child {
-            Walk::Refused(x) => {
-                return Walk::Refused(x);
-            }
-            Walk::Passed(a, next) => {
-                if going {
-                    let status = status_index(a);
-                    answer = a;
-                    going = rows[row][status];
-                }
-                at = next;
-                left -= 1;
-            }
+        let child = walked?;
+        if going {
+            let status = status_index(child.status);
+            answer = child.status;
+            going = rows[row][status];
         }
+        at = child.next;
     }
-    Walk::Passed(answer, at)
+    Ok(Walked {
+        status: answer,
+        next: at,
+    })
 }
 
 // The root, at depth 1: a row of one child answers as that child does, in a node of either kind.
-pub fn tick_root(tree: &[u8], context: Context, rows: [[bool; 4]; 2]) -> Walk
+pub fn tick_root(tree: &[u8], context: Context, rows: [[bool; 4]; 2]) -> Result<Walked, Refusal>
     ensures { walk_of result ≡ walk_node rows tree.now context 0 1 true }
 {
     tick_row(tree, 0, 1, Kind::Sequence, 1, true, context, rows)

@@ -2,8 +2,9 @@
 -- document 02, W10 and W12).
 -- "In a tree, its length first, then nodes in byte order, then END." Within a node 13 comes before 14, and 14 before 15.
 -- Definitions only.
-use Rattle.std.specs.Prelude.{ℕ, zero, suc, ◌+◌, ◌-◌, Bool, true, ◌&&◌, List, eqb, ltb, leb, length, get_or, if◌then◌else◌}
-use Rattle.refusal.specs.Checked.{Checked, accepted, refused, and_then}
+use Rattle.std.specs.Prelude.{ℕ, zero, suc, ◌+◌, ◌-◌, Bool, true, ◌&&◌, List, eqb, ltb, leb, length, get_or, if◌then◌else◌, Result}
+use Rattle.refusal.specs.declared.Refusal.{Refusal}
+use Rattle.refusal.specs.Checked.{answer_by, Checked, accepted, refused, and_then}
 use Rattle.commands.specs.declared.Found.{Found}
 use Rattle.commands.specs.declared.Found.TheVariants.{Missing, Unknown, Cut, Whole}
 use Rattle.commands.specs.Commands.{FALLBACK, SEQUENCE, CONDITION, JOB_LEAF, PAIR, WAITING, END_OF_TREE, OPERANDS_AT, ABSENT_AT, MASK_WIDTH, Past, command_at}
@@ -121,7 +122,9 @@ read_tree s facts jobs =
 
 -- ---- the answer of the code, in these terms
 
-abbrev pub node_read_of : NodeRead → Checked (Past Node)
-node_read_of (NodeRead.Branch kind count next) = accepted (record { value = branch kind count; next = next })
-node_read_of (NodeRead.Leaf x next) = accepted (record { value = leaf x; next = next })
-node_read_of (NodeRead.Malformed place) = refused 13 place
+abbrev pub past_node_of : NodeRead → Past Node
+past_node_of (NodeRead.Branch kind count next) = record { value = branch kind count; next = next }
+past_node_of (NodeRead.Leaf x next) = record { value = leaf x; next = next }
+
+abbrev pub node_read_of : Result NodeRead Refusal → Checked (Past Node)
+node_read_of = answer_by past_node_of

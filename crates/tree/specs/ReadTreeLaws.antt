@@ -6,7 +6,7 @@ use Rattle.std.proofs.Math.Decide.{dec_le}
 use native.Mathlib.Omega.{arith}
 use Rattle.std.proofs.Math.Path.{◌≡◌, refl, ap, subst}
 use Rattle.std.proofs.Common.{sym, ◌∙◌}
-use Rattle.std.specs.Prelude.{Bool, ◌&&◌, List, eqb, ltb, length, get_or, if◌then◌else◌}
+use Rattle.std.specs.Prelude.{Bool, ◌&&◌, List, eqb, ltb, length, get_or, if◌then◌else◌, None, Option, Some}
 use Rattle.std.proofs.Math.Bool.{true, false}
 use borrow.Author.Tests.{eq-eqb, ne_eqb, le-leb, lt-leb, leb-true, le-ltb, lt-ltb, ltb-true, ltb-false}
 use Rattle.std.proofs.Math.Dec.{leb}
@@ -14,8 +14,6 @@ use Rattle.refusal.specs.Checked.{Checked, accepted, refused, and_then}
 use Rattle.refusal.specs.CheckedLaws.{not_both, accepted_same, accepted_then, accepted_if}
 use Rattle.commands.specs.declared.Found.{Found}
 use Rattle.commands.specs.declared.Found.TheVariants.{Missing, Unknown, Cut, Whole}
-use Rattle.commands.specs.declared.Width.{Width}
-use Rattle.commands.specs.declared.Width.TheVariants.{Bytes, NoCommand}
 use Rattle.commands.specs.Commands.{FALLBACK, SEQUENCE, CONDITION, JOB_LEAF, END_OF_TREE, FALLBACK_SIZE, CONDITION_SIZE, JOB_LEAF_SIZE, PAIR, PAIR_SIZE, WAITING, WAITING_SIZE, OPERANDS_AT, MASK_WIDTH, Past, width_of, command_at}
 use Rattle.commands.specs.CommandLaws.{at_missing, at_unknown, at_whole, at_cut, WholeAt, whole_told}
 use Rattle.conditions.specs.Condition.{plain}
@@ -42,7 +40,7 @@ module _ (s : List ℕ) (at : ℕ) where
 
   module _ (h : at < length s) where
     -- a command whose operands have a width, by the table of commands
-    module _ (w : ℕ) (e : width_of (get_or s at 0) ≡ Bytes w) where
+    module _ (w : ℕ) (e : width_of (get_or s at 0) ≡ Some w) where
       past : at + 1 + w ≡ at + (1 + w)
       past = omega arith
 
@@ -91,11 +89,11 @@ module _ (s : List ℕ) (at : ℕ) where
 
     -- a node with children; FALLBACK and SEQUENCE take as many bytes
     module _ (kind : Kind) (b : get_or s at 0 ≡ kind_byte kind) where
-      branch_width : width_of (get_or s at 0) ≡ Bytes count_width
+      branch_width : width_of (get_or s at 0) ≡ Some count_width
       unfolding width_of
       branch_width = rw b (by_kind kind)
         where
-          by_kind : (k : Kind) → width_of (kind_byte k) ≡ Bytes count_width
+          by_kind : (k : Kind) → width_of (kind_byte k) ≡ Some count_width
           by_kind Fallback = refl
           by_kind Sequence = refl
 
@@ -137,9 +135,9 @@ module _ (s : List ℕ) (at : ℕ) where
         none : operands_of s at (get_or s at 0) ≡ refused 13 at
         none = rw (ne_eqb _ _ f, ne_eqb _ _ q, ne_eqb _ _ c, ne_eqb _ _ j, ne_eqb _ _ p, ne_eqb _ _ w)
 
-        by_width : (w : Width) → width_of (get_or s at 0) ≡ w → refused 13 at ≡ node_at s at
-        by_width NoCommand e = rw (at_unknown s at h e)
-        by_width (Bytes w) e = elim (dec_le (at + (1 + w)) (length s)) [
+        by_width : (w : (Option ℕ)) → width_of (get_or s at 0) ≡ w → refused 13 at ≡ node_at s at
+        by_width None e = rw (at_unknown s at h e)
+        by_width (Some w) e = elim (dec_le (at + (1 + w)) (length s)) [
           | yes l ↦ node_whole w e l (refused 13 at) none
           | no l ↦ node_cut w e (omega arith)
         ]

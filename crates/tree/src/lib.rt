@@ -9,6 +9,7 @@ ghost use Rattle.tree.specs.Tick.{status_of, leaf_answer};
 
 use conditions::{Condition, Evaluation};
 use reading::Reading;
+use refusal::{Reason, Refusal};
 
 // A node with children.
 #[derive(Clone, Copy)]
@@ -48,8 +49,6 @@ pub enum NodeRead {
     Branch(Kind, usize, usize),
     // A leaf, and the offset past its operands.
     Leaf(Leaf, usize),
-    // What stop 13 refuses, and its place.
-    Malformed(usize),
 }
 
 // Do the bytes end before the command at an offset does, which takes so many with its operands?
@@ -60,65 +59,65 @@ fn is_cut(tree: &[u8], at: usize, size: usize) -> bool
     tree.len() - at < size
 }
 
-fn branch_at(tree: &[u8], at: usize, kind: Kind) -> NodeRead
+fn branch_at(tree: &[u8], at: usize, kind: Kind) -> Result<NodeRead, Refusal>
     requires { (at < length tree.now) × (get_or tree.now at 0 ≡ kind_byte kind) }
     ensures { node_read_of result ≡ node_at tree.now at }
 {
     if is_cut(tree, at, BRANCH_SIZE) {
-        return NodeRead::Malformed(at);
+        return Err(Reason::BadTree.at(at));
     }
     let count = numbers::read_u16(tree, at + commands::OPERANDS_AT) as usize;
     if count == 0 {
-        return NodeRead::Malformed(at);
+        return Err(Reason::BadTree.at(at));
     }
     if count > MAX_CHILDREN {
-        return NodeRead::Malformed(at);
+        return Err(Reason::BadTree.at(at));
     }
-    NodeRead::Branch(kind, count, at + BRANCH_SIZE)
+    Ok(NodeRead::Branch(kind, count, at + BRANCH_SIZE))
 }
 
-fn condition_at(tree: &[u8], at: usize) -> NodeRead
+fn condition_at(tree: &[u8], at: usize) -> Result<NodeRead, Refusal>
     requires { (at < length tree.now) × (get_or tree.now at 0 ≡ CONDITION) }
     ensures { node_read_of result ≡ node_at tree.now at }
 {
     if is_cut(tree, at, commands::CONDITION_SIZE) {
-        return NodeRead::Malformed(at);
+        return Err(Reason::BadTree.at(at));
     }
     let present = numbers::read_u64(tree, at + commands::OPERANDS_AT);
     let leaf = Leaf::Condition(Condition { present, absent: 0 });
-    NodeRead::Leaf(leaf, at + commands::CONDITION_SIZE)
+    Ok(NodeRead::Leaf(leaf, at + commands::CONDITION_SIZE))
 }
 
-fn pair_at(tree: &[u8], at: usize) -> NodeRead
+fn pair_at(tree: &[u8], at: usize) -> Result<NodeRead, Refusal>
     requires { (at < length tree.now) × (get_or tree.now at 0 ≡ PAIR) }
     ensures { node_read_of result ≡ node_at tree.now at }
 {
     if is_cut(tree, at, commands::PAIR_SIZE) {
-        return NodeRead::Malformed(at);
+        return Err(Reason::BadTree.at(at));
     }
     let present = numbers::read_u64(tree, at + commands::OPERANDS_AT);
     let absent = numbers::read_u64(tree, at + commands::ABSENT_AT);
     let leaf = Leaf::Condition(Condition { present, absent });
-    NodeRead::Leaf(leaf, at + commands::PAIR_SIZE)
+    Ok(NodeRead::Leaf(leaf, at + commands::PAIR_SIZE))
 }
 
-fn action_at(tree: &[u8], at: usize) -> NodeRead
+fn action_at(tree: &[u8], at: usize) -> Result<NodeRead, Refusal>
     requires { (at < length tree.now) × (get_or tree.now at 0 ≡ JOB_LEAF) }
     ensures { node_read_of result ≡ node_at tree.now at }
 {
     if is_cut(tree, at, commands::JOB_LEAF_SIZE) {
-        return NodeRead::Malformed(at);
+        return Err(Reason::BadTree.at(at));
     }
     let leaf = Leaf::Action(tree[at + commands::OPERANDS_AT]);
-    NodeRead::Leaf(leaf, at + commands::JOB_LEAF_SIZE)
+    Ok(NodeRead::Leaf(leaf, at + commands::JOB_LEAF_SIZE))
 }
 
 // The node at an offset: any bytes.
-pub fn node_at(tree: &[u8], at: usize) -> NodeRead
+pub fn node_at(tree: &[u8], at: usize) -> Result<NodeRead, Refusal>
     ensures { node_read_of result ≡ node_at tree.now at }
 {
     if at >= tree.len() {
-        return NodeRead::Malformed(tree.len());
+        return Err(Reason::BadTree.at(tree.len()));
     }
     let byte = tree[at];
     if byte == commands::CONDITION {
@@ -134,12 +133,12 @@ pub fn node_at(tree: &[u8], at: usize) -> NodeRead
         return branch_at(tree, at, Kind::Sequence);
     }
     if byte == commands::WAITING {
-        return NodeRead::Leaf(Leaf::Wait, at + commands::WAITING_SIZE);
+        return Ok(NodeRead::Leaf(Leaf::Wait, at + commands::WAITING_SIZE));
     }
     if byte == commands::FALLBACK {
         return branch_at(tree, at, Kind::Fallback);
     }
-    NodeRead::Malformed(at)
+    Err(Reason::BadTree.at(at))
 }
 
 // Are a leaf's operands in range, for so many facts and jobs? Where they are not, stop 15 arises.

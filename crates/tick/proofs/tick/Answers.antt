@@ -1,13 +1,12 @@
 -- `tick::tick` meets its contract. The table is read first.
+use Rattle.refusal.specs.CheckedLaws.{passed_on}
 use Rattle.tick.specs.AnswersLaws.{answers_refused, answers_read}
-use Rattle.table.specs.Read.{table_read_of}
-use mathlib.Core.Path.{refl, sym, ap, ◌∙◌}
+use Rattle.std.proofs.Math.Path.{refl}
 use Rattle.tick.proofs.tick.Goals as goal
 
-pub returns-in-Refused : goal.returns-in-Refused
-returns-in-Refused c =
-    answers_refused _ _ _ _ _ _ (ap table_read_of (sym c.in-Refused.is) ∙ c.read_table.ensures) refl
+pub returns-in_err-header : goal.returns-in_err-header
+returns-in_err-header c =
+    answers_refused _ _ _ _ _ _ c.in_err-header.ensures (passed_on _ _ c.from_residual.ensures refl)
 
-pub returns-in-Sound : goal.returns-in-Sound
-returns-in-Sound c =
-    answers_read _ _ _ _ _ (ap table_read_of (sym c.in-Sound.is) ∙ c.read_table.ensures) c.tick_checked.ensures
+pub returns : goal.returns
+returns c = answers_read _ _ _ _ _ c.in_ok-header.ensures c.tick_checked.ensures

@@ -11,9 +11,6 @@ decreases-tick_node l = (length l.tree.now - l.at) * 2
 abbrev pub decreases-tick_row : goal.decreases-tick_row
 decreases-tick_row l = (length l.tree.now - l.first) * 2 + 1
 
-abbrev pub invariant-tick_row-loop-left : goal.invariant-tick_row-loop-left
-invariant-tick_row-loop-left l =
-    (kind : Kind) → l.row ≡ kind_index kind → RowLeft l.rows l.tree l.context kind l.depth l.first l.count l.live l.at l.left l.going l.answer
-
-abbrev pub decreases-tick_row-loop-left : goal.decreases-tick_row-loop-left
-decreases-tick_row-loop-left l = l.left
+abbrev pub invariant-tick_row-loop : goal.invariant-tick_row-loop
+invariant-tick_row-loop l =
+    (kind : Kind) → l.row ≡ kind_index kind → RowLeft l.rows l.tree l.context kind l.depth l.first l.count l.live l.at (l.count - l.counter) l.going l.answer

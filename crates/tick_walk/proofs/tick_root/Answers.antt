@@ -1,6 +1,5 @@
 -- `tick_walk::tick_root` meets its contract: a row of one child answers as that child does.
 use Rattle.tick_walk.specs.WalkLaws.{row_one}
-use borrow.Author.Rules.{rules}
 use mathlib.Core.Path.{◌∙◌}
 use Rattle.tick_walk.proofs.tick_root.Goals as goal
 

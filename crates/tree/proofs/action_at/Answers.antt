@@ -14,7 +14,7 @@ is_cut-requires c = c.requires.0
 pub returns-then-is_cut : goal.returns-then-is_cut
 returns-then-is_cut c =
     let p = c.requires in
-    action_cut _ _ p.0 p.1 (ltb-true _ _ (sym c.is_cut.ensures ∙ c.if-is_cut.true))
+    rw c.at.ensures (action_cut _ _ p.0 p.1 (ltb-true _ _ (sym c.is_cut.ensures ∙ c.if-is_cut.true)))
 
 pub bounds-tree-at : goal.bounds-tree-at
 bounds-tree-at c =

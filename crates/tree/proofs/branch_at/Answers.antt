@@ -12,8 +12,7 @@ pub is_cut-requires : goal.is_cut-requires
 is_cut-requires c = c.requires.0
 
 pub returns-then-is_cut : goal.returns-then-is_cut
-returns-then-is_cut c =
-    branch_cut _ _ c.requires.0 c.args.kind c.requires.1 (ltb-true _ _ (sym c.is_cut.ensures ∙ c.if-is_cut.true))
+returns-then-is_cut c = rw c.at.ensures (branch_cut _ _ c.requires.0 c.args.kind c.requires.1 (ltb-true _ _ (sym c.is_cut.ensures ∙ c.if-is_cut.true)))
 
 pub read_u16-count-requires : goal.read_u16-count-requires
 read_u16-count-requires c =
@@ -23,12 +22,12 @@ read_u16-count-requires c =
 pub returns-then-count-eq0 : goal.returns-then-count-eq0
 returns-then-count-eq0 c =
     let whole = ltb-false _ _ (sym c.is_cut.ensures ∙ c.if-is_cut.false) in
-    branch_none _ _ c.requires.0 c.args.kind c.requires.1 whole (sym c.read_u16-count.ensures ∙ c.if-count-eq0.true)
+    rw c.at-then-count-eq0.ensures (branch_none _ _ c.requires.0 c.args.kind c.requires.1 whole (sym c.read_u16-count.ensures ∙ c.if-count-eq0.true))
 
 pub returns-then-count-gt-MAX_CHILDREN : goal.returns-then-count-gt-MAX_CHILDREN
 returns-then-count-gt-MAX_CHILDREN c =
     let whole = ltb-false _ _ (sym c.is_cut.ensures ∙ c.if-is_cut.false) in
-    branch_many _ _ c.requires.0 c.args.kind c.requires.1 whole (λ e. omega (arith, c.read_u16-count.ensures, e)) (rw c.read_u16-count.ensures at c.if-count-gt-MAX_CHILDREN.true)
+    rw c.at-then-count-gt-MAX_CHILDREN.ensures (branch_many _ _ c.requires.0 c.args.kind c.requires.1 whole (λ e. omega (arith, c.read_u16-count.ensures, e)) (rw c.read_u16-count.ensures at c.if-count-gt-MAX_CHILDREN.true))
 
 pub returns : goal.returns
 returns c =

@@ -20,7 +20,7 @@ is_cut-requires c = c.requires.0
 pub returns-then-is_cut : goal.returns-then-is_cut
 returns-then-is_cut c =
     let p = c.requires in
-    pair_cut _ _ p.0 p.1 (ltb-true _ _ (sym c.is_cut.ensures ∙ c.if-is_cut.true))
+    rw c.at.ensures (pair_cut _ _ p.0 p.1 (ltb-true _ _ (sym c.is_cut.ensures ∙ c.if-is_cut.true)))
 
 -- all of its bytes are there
 whole : (c : AtElse1) → let a = c.before.before.before.args in a.at + PAIR_SIZE ≤ length a.tree.now
