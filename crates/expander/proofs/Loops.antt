@@ -3,16 +3,14 @@
 -- Assumes nothing.
 use mathlib.Core.Path.{◌≡◌, refl, sym, ap, ◌∙◌}
 use mathlib.Core.Bool.{Bool, not, ◌&&◌}
-use mathlib.Core.List.{List, [], ◌∷◌, ◌++◌}
+use mathlib.Core.List.{[], ◌∷◌, ◌++◌}
 use Prim.Native.Nat.{ℕ, ◌+◌, ◌≤◌, ◌<◌}
-use native.Mathlib.Decide.{dec_le}
 use native.Mathlib.Omega.{arith}
 use native.Mathlib.Numerals.{add-one}
 use lib.Dec.{T, T_not, not_T, ltb, lt→ltb}
-use lib.ListN.{length, get_or, get_or-eq_default}
+use lib.ListN.{length, get_or}
 use lib.Seq.{get_or-set_other}
 use Rattle.base.specs.Bools.{and_intro, and_right}
-use Rattle.conditions.specs.declared.Found.TheVariants.{Nowhere}
 use Rattle.conditions.specs.declared.Condition.{Condition}
 use Rattle.conditions.specs.Condition.{consistent, relevant, regressed, condition_at}
 use Rattle.conditions.specs.Search.{newest_weaker}
@@ -24,44 +22,29 @@ use Rattle.planning.proofs.ExpansionSteps.{list_grows}
 use Rattle.planning.proofs.SearchLaws.{wanted_intro, unwanted_irrelevant, unwanted_unsatisfiable, unwanted_listed}
 use Rattle.planning.proofs.ColumnLaws.{length_prefix, get_d_prefix, entries_store}
 use Rattle.planning.specs.Facts.{Actions, unit_domain, fact_plan}
-use Rattle.expander.specs.Expands.{count_of, actions_of, Columns, room, held, Unlent}
-use Rattle.expander.specs.ExpandsLaws.{count_needs, count_adds, count_deletes, count_most, entry_of, nowhere_unlisted}
+use Rattle.expander.specs.Expands.{Columns, room, held, Unlent, Unasked}
+use Rattle.expander.specs.ExpandsLaws.{entry_of, nowhere_unlisted}
 use Rattle.expander.proofs.Tables.{Holds, store, holds_none, holds_store, holds_self, holds_on, second_nothing, second_read}
+use Rattle.std.specs.Prelude.{None}
 
 -- ---- what holds at the head of each loop
 
--- The code counts no action past the end of a row, and no more than a byte can number.
-pub record InRows (needs adds deletes : List ℕ) (count : ℕ) : Type 0 where
-  pub in_needs : count ≤ length needs
-  pub in_adds : count ≤ length adds
-  pub in_deletes : count ≤ length deletes
-  pub few : count ≤ 128
-
--- Where the list is not paired, no action needs a fact absent.
-abbrev pub NoAbsence : Bool → Actions → Type 0
-NoAbsence paired A = T (not paired) → (a : ℕ) → (A.action a).absent ≡ 0
-
 -- Where the loop began, the tables were t₀ and held n₀ entries; now they are t and hold n, and those below e are expanded.
-pub record AtEntry (paired : Bool) (A : Actions) (goal : Condition) (stop : Condition → Bool) (capacity count : ℕ) (t₀ : Columns) (n₀ : ℕ) (t : Columns)
+pub record AtEntry (paired : Bool) (A : Actions) (goal : Condition) (stop : Condition → Bool) (capacity : ℕ) (t₀ : Columns) (n₀ : ℕ) (t : Columns)
     (n e : ℕ) : Type 0 where
-  pub counted : count ≡ A.count
-  pub no_absence : NoAbsence paired A
   pub holds : Holds paired capacity n t₀ t
   pub grown : n₀ ≤ n
   pub inside : e ≤ n
   pub same : remaining_from (unit_domain A goal) A.count capacity stop e (held t n) ≡ fact_plan A goal capacity stop
 
 -- Besides, the actions below a were tried at entry e, whose condition is c and whose depth is d.
-pub record AtAction (paired : Bool) (A : Actions) (goal : Condition) (stop : Condition → Bool) (capacity count : ℕ) (t₀ : Columns) (n₀ e : ℕ)
+pub record AtAction (paired : Bool) (A : Actions) (goal : Condition) (stop : Condition → Bool) (capacity : ℕ) (t₀ : Columns) (n₀ e : ℕ)
     (c : Condition) (d : ℕ) (t : Columns) (n a : ℕ) : Type 0 where
-  pub counted : count ≡ A.count
-  pub no_absence : NoAbsence paired A
   pub holds : Holds paired capacity n t₀ t
   pub grown : n₀ ≤ n
   pub inside : e < n
   pub its_condition : c ≡ condition_at t.conditions t.absences e
   pub its_depth : d ≡ get_or t.depths e 0
-  pub tried : a ≤ A.count
   pub same : remaining_at (unit_domain A goal) A.count capacity stop e a (held t n) ≡ fact_plan A goal capacity stop
 
 -- Where the search found nothing: action a serves c, what it makes of c wants no fact both ways, and no listed condition is a part of that.
@@ -70,25 +53,9 @@ pub record Wanted (A : Actions) (t : Columns) (n : ℕ) (c : Condition) (a : ℕ
   pub serves : T (relevant (A.action a) c)
   pub made : new ≡ regressed (A.action a) c
   pub possible : T (consistent new)
-  pub searched : newest_weaker t.conditions t.absences n new ≡ Nowhere
+  pub searched : newest_weaker t.conditions t.absences n new ≡ None
 
 -- ---- before the loops
-
-pub in_rows : {needs adds deletes : List ℕ} {count : ℕ} → count ≡ count_of (length needs) (length adds) (length deletes) → InRows needs adds deletes count
-in_rows {needs} {adds} {deletes} e =
-    record {
-      in_needs = omega (arith, count_needs (length needs) (length adds) (length deletes));
-      in_adds = omega (arith, count_adds (length needs) (length adds) (length deletes));
-      in_deletes = omega (arith, count_deletes (length needs) (length adds) (length deletes));
-      few = omega (arith, count_most (length needs) (length adds) (length deletes));
-    }
-
--- where the row of absent facts is empty, no action has any
-pub row_absence : (needs absent adds deletes : List ℕ) → NoAbsence (ltb 0 (length absent)) (actions_of needs absent adds deletes)
-row_absence needs absent adds deletes p a = get_or-eq_default absent 0 {n = a} (omega (arith, empty))
-  where
-    empty : length absent ≤ 0
-    empty = elim (dec_le (length absent) 0) [ yes l ↦ l | no l ↦ absurd (T_not (ltb 0 (length absent)) p (lt→ltb 0 (length absent) (omega arith))) ]
 
 -- entry 0 is stored
 pub root_held : {paired : Bool} {capacity : ℕ} (goal : Condition) (t : Columns) → Unlent paired t.absences → capacity ≡ room t paired → 0 < capacity
@@ -113,12 +80,9 @@ module _ (paired : Bool) (A : Actions) (goal : Condition) (stop : Condition → 
     pub goal_met : T (stop goal) → covered (held (store t 0 goal 255 0 0) 1) ≡ fact_plan A goal capacity stop
     goal_met s = ap covered root_list ∙ sym (start_covered D₀ A.count capacity stop h s)
 
-    pub first_entry : {count : ℕ} → count ≡ A.count → NoAbsence paired A → T (not (stop goal))
-        → AtEntry paired A goal stop capacity count (store t 0 goal 255 0 0) 1 (store t 0 goal 255 0 0) 1 0
-    first_entry q z s =
+    pub first_entry : T (not (stop goal)) → AtEntry paired A goal stop capacity (store t 0 goal 255 0 0) 1 (store t 0 goal 255 0 0) 1 0
+    first_entry s =
         record {
-          counted = q;
-          no_absence = z;
           holds = holds_self (root_held goal t u e h);
           grown = omega arith;
           inside = omega arith;
@@ -127,8 +91,8 @@ module _ (paired : Bool) (A : Actions) (goal : Condition) (stop : Condition → 
 
 -- ---- the entries
 
-module _ {paired : Bool} {A : Actions} {goal : Condition} {stop : Condition → Bool} {capacity count : ℕ} {t₀ t : Columns} {n₀ n e : ℕ}
-    (I : AtEntry paired A goal stop capacity count t₀ n₀ t n e) where
+module _ {paired : Bool} {A : Actions} {goal : Condition} {stop : Condition → Bool} {capacity : ℕ} {t₀ t : Columns} {n₀ n e : ℕ}
+    (I : AtEntry paired A goal stop capacity t₀ n₀ t n e) where
   abbrev D₁ : Domain ℕ Condition ℕ
   D₁ = unit_domain A goal
 
@@ -145,17 +109,14 @@ module _ {paired : Bool} {A : Actions} {goal : Condition} {stop : Condition → 
     less = omega (arith, I.inside)
 
     pub enter : {c : Condition} → c ≡ condition_at t.conditions t.absences e
-        → AtAction paired A goal stop capacity count t n e c (get_or t.depths e 0) t n 0
+        → AtAction paired A goal stop capacity t n e c (get_or t.depths e 0) t n 0
     enter q =
         record {
-          counted = I.counted;
-          no_absence = I.no_absence;
           holds = holds_self I.holds;
           grown = omega arith;
           inside = less;
           its_condition = q;
           its_depth = refl;
-          tried = omega arith;
           same =
               sym (enter_entry D₁ A.count capacity stop e (held t n) (omega (arith, less, held_length))
               (omega (arith, held_length, I.holds.fits)))
@@ -163,13 +124,10 @@ module _ {paired : Bool} {A : Actions} {goal : Condition} {stop : Condition → 
         }
 
     -- every action was tried at it
-    pub leave : {c : Condition} {d : ℕ} {u : Columns} {m a : ℕ} → AtAction paired A goal stop capacity count t n e c d u m a → count ≤ a
-        → AtEntry paired A goal stop capacity count t₀ n₀ u m (e + 1)
-    leave {c} {d} {u} {m} {a} J h =
-        let all : a ≡ A.count = omega (arith, J.counted, J.tried) in
+    pub leave : {c : Condition} {d : ℕ} {u : Columns} {m a : ℕ} → AtAction paired A goal stop capacity t n e c d u m a → a ≡ A.count
+        → AtEntry paired A goal stop capacity t₀ n₀ u m (e + 1)
+    leave {c} {d} {u} {m} {a} J all =
         record {
-          counted = I.counted;
-          no_absence = I.no_absence;
           holds = holds_on I.holds J.holds J.grown;
           grown = omega (arith, I.grown, J.grown);
           inside = omega (arith, J.inside);
@@ -178,8 +136,8 @@ module _ {paired : Bool} {A : Actions} {goal : Condition} {stop : Condition → 
 
 -- ---- the actions at an entry
 
-module _ {paired : Bool} {A : Actions} {goal : Condition} {stop : Condition → Bool} {capacity count : ℕ} {t₀ t : Columns} {n₀ n e : ℕ} {c : Condition}
-    {d a : ℕ} (I : AtAction paired A goal stop capacity count t₀ n₀ e c d t n a) where
+module _ {paired : Bool} {A : Actions} {goal : Condition} {stop : Condition → Bool} {capacity : ℕ} {t₀ t : Columns} {n₀ n e : ℕ} {c : Condition}
+    {d a : ℕ} (I : AtAction paired A goal stop capacity t₀ n₀ e c d t n a) where
   abbrev D : Domain ℕ Condition ℕ
   D = unit_domain A goal
 
@@ -196,26 +154,20 @@ module _ {paired : Bool} {A : Actions} {goal : Condition} {stop : Condition → 
   its_length : length (held t n) ≡ n
   its_length = length_prefix (entry_of t) n
 
-  module _ (more : a < count) where
-    below : a < A.count
-    below = omega (arith, I.counted)
-
-    skip : T (not (wanted D a it (held t n))) → AtAction paired A goal stop capacity count t₀ n₀ e c d t n (a + 1)
+  module _ (below : a < A.count) where
+    skip : T (not (wanted D a it (held t n))) → AtAction paired A goal stop capacity t₀ n₀ e c d t n (a + 1)
     skip w =
         record {
-          counted = I.counted;
-          no_absence = I.no_absence;
           holds = I.holds;
           grown = I.grown;
           inside = I.inside;
           its_condition = I.its_condition;
           its_depth = I.its_depth;
-          tried = omega (arith, below);
           same = rw (add-one a) (sym (skip_action D A.count capacity stop e a (held t n) below w) ∙ I.same);
         }
 
     -- the action does not serve the condition
-    pub skip_irrelevant : T (not (relevant (A.action a) c)) → AtAction paired A goal stop capacity count t₀ n₀ e c d t n (a + 1)
+    pub skip_irrelevant : T (not (relevant (A.action a) c)) → AtAction paired A goal stop capacity t₀ n₀ e c d t n (a + 1)
     skip_irrelevant r =
         skip (unwanted_irrelevant D a it (held t n)
         (rw its_condition_is (not_T (ltb a A.count && relevant (A.action a) c)
@@ -223,11 +175,11 @@ module _ {paired : Bool} {A : Actions} {goal : Condition} {stop : Condition → 
 
     module _ (new : Condition) (made : new ≡ regressed (A.action a) c) where
       -- what it makes of it wants a fact both ways
-      pub skip_inconsistent : T (not (consistent new)) → AtAction paired A goal stop capacity count t₀ n₀ e c d t n (a + 1)
+      pub skip_inconsistent : T (not (consistent new)) → AtAction paired A goal stop capacity t₀ n₀ e c d t n (a + 1)
       skip_inconsistent s = skip (unwanted_unsatisfiable D a it (held t n) (rw (its_condition_is, ← made) s))
 
       -- a listed condition is a part of what it makes of it
-      pub skip_listed : (newest_weaker t.conditions t.absences n new ≡ Nowhere → ⊥) → AtAction paired A goal stop capacity count t₀ n₀ e c d t n (a + 1)
+      pub skip_listed : (newest_weaker t.conditions t.absences n new ≡ None → ⊥) → AtAction paired A goal stop capacity t₀ n₀ e c d t n (a + 1)
       skip_listed found =
           skip (unwanted_listed D a it (held t n) (λ u. found ((nowhere_unlisted A goal t n new).1 (rw (its_condition_is, ← made) at u))))
 
@@ -245,7 +197,7 @@ module _ {paired : Bool} {A : Actions} {goal : Condition} {stop : Condition → 
     fills h =
         sym (list_full D A.count capacity stop e a (held t n) W.below is_wanted (omega (arith, its_length))) ∙ I.same
 
-    module _ (other : n ≡ capacity → ⊥) where
+    module _ (z : Unasked paired A) (other : n ≡ capacity → ⊥) where
       free : n < capacity
       free = omega (arith, I.holds.fits)
 
@@ -256,7 +208,7 @@ module _ {paired : Bool} {A : Actions} {goal : Condition} {stop : Condition → 
       new_plain : T (not paired) → new.absent ≡ 0
       new_plain p =
           ap (λ x. x.absent) W.made
-          ∙ plain_regressed (A.action a) c (I.no_absence p a) (ap (λ x. x.absent) I.its_condition ∙ second_nothing I.holds.absences p e)
+          ∙ plain_regressed (A.action a) c (z p a W.below) (ap (λ x. x.absent) I.its_condition ∙ second_nothing I.holds.absences p e)
 
       pub holds_new : Holds paired capacity (n + 1) t₀ after
       holds_new = holds_store I.holds free new a e (d + 1) (omega (arith, I.its_depth, I.holds.shallow e I.inside, I.inside))
@@ -278,11 +230,9 @@ module _ {paired : Bool} {A : Actions} {goal : Condition} {stop : Condition → 
           ∙ I.same
 
       -- it does not
-      pub grows : T (not (stop new)) → AtAction paired A goal stop capacity count t₀ n₀ e c d after (n + 1) (a + 1)
+      pub grows : T (not (stop new)) → AtAction paired A goal stop capacity t₀ n₀ e c d after (n + 1) (a + 1)
       grows s =
           record {
-            counted = I.counted;
-            no_absence = I.no_absence;
             holds = holds_new;
             grown = omega (arith, I.grown);
             inside = omega (arith, I.inside);
@@ -293,7 +243,6 @@ module _ {paired : Bool} {A : Actions} {goal : Condition} {stop : Condition → 
                   get_or-set_other t.absences n e new.absent 0 (omega (arith, I.inside)),
                 );
             its_depth = I.its_depth ∙ sym (get_or-set_other t.depths n e (d + 1) 0 (omega (arith, I.inside)));
-            tried = omega (arith, W.below);
             same =
                 rw (add-one a, ← list_is)
                 (sym (list_grows D A.count capacity stop e a (held t n) W.below is_wanted (omega (arith, free, its_length))

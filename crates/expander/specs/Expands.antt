@@ -1,10 +1,11 @@
 -- What an expansion answers and leaves in the lent list tables, by the definition of the plan: document 01, "Expansion"; document 02, W10.
 -- Definitions only.
-use Rattle.std.specs.Prelude.{◌≡◌, Bool, true, false, not, List, [], ℕ, min, T, length, if◌then◌else◌}
+use Rattle.std.specs.Prelude.{◌≡◌, Bool, true, false, not, List, [], ℕ, ◌<◌, min, T, length, get_or, if◌then◌else◌}
 pub use Rattle.base.specs.Lists.{over}
 use Rattle.refusal.specs.Checked.{Checked, accepted, refused, and_then}
+use Rattle.conditions.specs.declared.Action.{Action}
 use Rattle.conditions.specs.declared.Condition.{Condition}
-use Rattle.conditions.specs.Condition.{satisfied, action_at}
+use Rattle.conditions.specs.Condition.{satisfied}
 use Rattle.planning.specs.Expansion.{Entry, Outcome, exhausted, covered, full, entries}
 use Rattle.planning.specs.Columns.{max_entries, entries_of}
 use Rattle.planning.specs.Facts.{Actions, fact_plan}
@@ -13,19 +14,23 @@ use Rattle.expander.specs.declared.Expanded.TheVariants as X
 use Rattle.expander.specs.declared.Until.{Until}
 use Rattle.expander.specs.declared.Until.TheVariants as U
 
--- ---- the actions, in four rows of masks
+-- ---- the actions, in a list
 
--- how many, by the lengths of the rows: the shortest counts, and "0 to 128 JOBs numbered from 0"; past the row of absent facts there are none
-unfoldable pub count_of : ℕ → ℕ → ℕ → ℕ
-count_of needs adds deletes = min (min (min needs adds) deletes) 128
+-- what is read past the last action
+abbrev pub no_action : Action
+no_action = record { needs = 0; absent = 0; adds = 0; deletes = 0 }
 
-abbrev pub actions_of : List ℕ → List ℕ → List ℕ → List ℕ → Actions
-actions_of needs absent adds deletes =
-    record { count = count_of (length needs) (length adds) (length deletes); action = action_at needs absent adds deletes }
+-- "0 to 128 JOBs numbered from 0": past 128 there are none
+abbrev pub actions_in : List Action → Actions
+actions_in actions = record { count = min (length actions) 128; action = λ a. get_or actions a no_action }
+
+-- where the list of conditions is not paired, no action needs a fact absent
+abbrev pub Unasked : Bool → Actions → Type 0
+Unasked paired A = T (not paired) → (a : ℕ) → a < A.count → (A.action a).absent ≡ 0
 
 -- ---- the lent list tables, as the five columns of a list of entries
--- `paired` says that there is a row of absent facts, though all its masks may be empty: "once the table has a 0x21 .. its list takes a further lent
--- table for the second masks".
+-- `paired` says that actions may need facts absent, though none of them has to: "once the table has a 0x21 .. its list takes a further lent table for
+-- the second masks".
 
 pub record Columns : Type 0 where
   pub conditions : List ℕ

@@ -1,6 +1,6 @@
 -- What a caller of the expansion learns: the tables hold the list of the plan, and the list has the properties that the theory of plans shows.
 -- Assumes nothing.
-use Rattle.std.specs.Prelude.{◌≡◌, refl, Bool, not, ◌↔◌, List, [], map, ℕ, suc, ◌≤◌, ◌<◌, T, length, get_or, take, drop, if◌then◌else◌}
+use Rattle.std.specs.Prelude.{◌≡◌, refl, Bool, not, ◌↔◌, List, [], map, ℕ, suc, ◌≤◌, ◌<◌, T, length, get_or, take, drop, if◌then◌else◌, None}
 use Rattle.std.proofs.Common.{sym, ap, ◌∙◌, subst, T_not, length-append}
 use Rattle.std.proofs.Math.Bool.{true, false}
 use native.Mathlib.Omega.{arith}
@@ -9,7 +9,6 @@ use Rattle.std.proofs.Math.ListN.{get_or-append, get_or-map}
 use Rattle.std.proofs.Math.Seq.{take-length}
 use Rattle.base.specs.Lists.{get_d_inside}
 use Rattle.refusal.specs.Checked.{accepted, and_then}
-use Rattle.conditions.specs.declared.Found.TheVariants.{Nowhere}
 use Rattle.conditions.specs.declared.Condition.{Condition}
 use Rattle.conditions.specs.Condition.{condition_at, condition_within}
 use Rattle.conditions.specs.Search.{newest_weaker}
@@ -31,31 +30,9 @@ use Rattle.expander.specs.declared.Expanded.{Expanded}
 use Rattle.expander.specs.declared.Expanded.TheVariants as X
 use Rattle.expander.specs.declared.Until.{Until}
 use Rattle.expander.specs.declared.Until.TheVariants as U
-use Rattle.expander.specs.Expands.{count_of, Columns, capacity_of, room, held, over, if_paired, ended_by, plan_in, expanded_of, listed_by, outcome_of, Expands}
+use Rattle.expander.specs.Expands.{Columns, capacity_of, room, held, over, if_paired, ended_by, plan_in, expanded_of, listed_by, outcome_of, Expands}
 
--- ---- the number of actions, and the capacity
-
-module _ (needs adds deletes : ℕ) where
-  pub count_needs : count_of needs adds deletes ≤ needs
-  unfolding count_of
-  count_needs = omega arith
-
-  pub count_adds : count_of needs adds deletes ≤ adds
-  unfolding count_of
-  count_adds = omega arith
-
-  pub count_deletes : count_of needs adds deletes ≤ deletes
-  unfolding count_of
-  count_deletes = omega arith
-
-  pub count_most : count_of needs adds deletes ≤ 128
-  unfolding count_of
-  count_most = omega arith
-
--- rows of one length have an action each
-pub count_rows : (n : ℕ) → n ≤ 128 → count_of n n n ≡ n
-unfolding count_of
-count_rows n h = omega arith
+-- ---- the capacity
 
 module _ (conditions absences actions parents depths : ℕ) where
   pub capacity_conditions : (paired : Bool) → capacity_of paired conditions absences actions parents depths ≤ conditions
@@ -143,7 +120,7 @@ module _ (A : Actions) (goal : Condition) (t : Columns) (n : ℕ) (c : Condition
   condition_held : (i : ℕ) → i < n → (entry_in (unit_domain A goal) (held t n) i).condition ≡ condition_at t.conditions t.absences i
   condition_held i h = ap (λ x. x.condition) (get_d_prefix (entry_of t) n i _ h)
 
-  pub nowhere_unlisted : (newest_weaker t.conditions t.absences n c ≡ Nowhere) ↔ T (not (listed (unit_domain A goal) (held t n) c))
+  pub nowhere_unlisted : (newest_weaker t.conditions t.absences n c ≡ None) ↔ T (not (listed (unit_domain A goal) (held t n) c))
   nowhere_unlisted =
       let D = unit_domain A goal in
       let few = held_length t n in (

@@ -4,9 +4,9 @@
 
 ghost use Rattle.std.specs.Prelude.{◌≡◌, ltb, length};
 ghost use Rattle.conditions.specs.Condition.{plain};
-ghost use Rattle.expander.specs.Expands.{count_of, actions_of, columns, capacity_of, ended_by, if_paired, Unlent, Expands};
+ghost use Rattle.expander.specs.Expands.{actions_in, columns, capacity_of, ended_by, if_paired, Unlent, Unasked, Expands};
 
-use conditions::{Condition, Found};
+use conditions::{Action, Condition};
 
 // What ends the list, besides its capacity.
 #[derive(Clone, Copy)]
@@ -33,30 +33,28 @@ pub const NO_ACTION: u8 = 255;
 
 pub const MAX_ENTRIES: usize = 4_096;
 
-// Of a paired list: there is a row of absent facts.
+// Of a paired list: it holds second masks.
 pub const MAX_PAIRS: usize = 2_978;
 
 const MAX_ACTIONS: usize = 128;
 
-// How many entries fit the list tables, by their lengths. Where there is no row of absent facts, the second masks take no room.
+// How many entries fit the list tables, by their lengths. The second masks of a list that is not paired take no room.
+#[tactic(auto, unfolding(crate::specs::Expands::capacity_of))]
 pub fn capacity_of(
-    absent: usize,
+    paired: bool,
     conditions: usize,
     absences: usize,
     actions: usize,
     parents: usize,
     depths: usize,
 ) -> usize
-    ensures { result ≡ capacity_of (ltb 0 absent) conditions absences actions parents depths }
+    ensures { result ≡ capacity_of paired conditions absences actions parents depths }
 {
-    let shortest = numbers::lesser(
-        numbers::lesser(conditions, actions),
-        numbers::lesser(parents, depths),
-    );
-    if absent == 0 {
-        return numbers::lesser(shortest, MAX_ENTRIES);
+    let shortest = conditions.min(actions).min(parents.min(depths));
+    if paired {
+        return shortest.min(absences).min(MAX_PAIRS);
     }
-    numbers::lesser(numbers::lesser(shortest, absences), MAX_PAIRS)
+    shortest.min(MAX_ENTRIES)
 }
 
 // How many of n second masks count: all for a paired list, and none for one that has no second masks.
@@ -64,16 +62,6 @@ pub fn if_paired(paired: bool, n: usize) -> usize
     ensures { result ≡ if_paired paired n }
 {
     if paired { n } else { 0 }
-}
-
-// How many actions the rows hold, by their lengths.
-fn count_of(needs: usize, adds: usize, deletes: usize) -> usize
-    ensures { result ≡ count_of needs adds deletes }
-{
-    numbers::lesser(
-        numbers::lesser(numbers::lesser(needs, adds), deletes),
-        MAX_ACTIONS,
-    )
 }
 
 // Does a listed condition end the list?
@@ -86,14 +74,12 @@ fn ends_list(until: Until, condition: Condition) -> bool
     }
 }
 
-// Lists the conditions from which the actions lead to the goal, nearest first, up to the first that ends the list.
-// Action a has its masks at a of `needs`, `absent`, `adds` and `deletes`; entry i stands at i of `conditions`, `absences`, `actions`, `parents` and
-// `depths`. Where `absent` is empty the list is not paired, and no second masks are lent.
+// Lists the conditions from which the jobs lead to the goal, nearest first, up to the first that ends the list. Entry i stands at i of `conditions`,
+// `absences`, `actions`, `parents` and `depths`, where `actions` has the number of a job; no second masks are lent for a list that is not paired.
+#[tactic(auto, using(crate::specs::ExpandsLaws::capacity_conditions, crate::specs::ExpandsLaws::capacity_actions, crate::specs::ExpandsLaws::capacity_parents, crate::specs::ExpandsLaws::capacity_depths))]
 pub fn expand(
-    needs: &[u64],
-    absent: &[u64],
-    adds: &[u64],
-    deletes: &[u64],
+    paired: bool,
+    jobs: &[Action],
     goal: u64,
     until: Until,
     conditions: &mut [u64],
@@ -102,14 +88,13 @@ pub fn expand(
     parents: &mut [u16],
     depths: &mut [u16],
 ) -> Expanded
-    requires { Unlent (ltb 0 (length absent.now)) absences.old }
-    ensures { Expands (ltb 0 (length absent.now))
-        (actions_of needs.now absent.now adds.now deletes.now) (plain goal) until
+    requires { Unlent paired absences.old × Unasked paired (actions_in jobs.now) }
+    ensures { Expands paired (actions_in jobs.now) (plain goal) until
         (columns conditions.old absences.old actions.old parents.old depths.old)
         (columns conditions.new absences.new actions.new parents.new depths.new) result }
 {
     let capacity = capacity_of(
-        absent.len(),
+        paired,
         conditions.len(),
         absences.len(),
         actions.len(),
@@ -131,7 +116,7 @@ pub fn expand(
     if ends_list(until, root) {
         return Expanded::Covered(1);
     }
-    let count = count_of(needs.len(), adds.len(), deletes.len());
+    let count = jobs.len().min(MAX_ACTIONS);
     // The list has n entries, and those below e are expanded.
     let mut n: usize = 1;
     let mut e: usize = 0;
@@ -141,17 +126,13 @@ pub fn expand(
         }
         let condition = conditions::condition_at(conditions, absences, e);
         let depth = depths[e];
-        let mut next: usize = 0;
-        'actions: while next < count {
-            let a = next;
-            next += 1;
-            let action = conditions::action_at(needs, absent, adds, deletes, a);
+        'actions: for a in 0..count {
+            let action = jobs[a];
             if conditions::is_relevant(action, condition) {
                 let new = conditions::regress(action, condition);
                 // A condition that wants a fact both ways is dropped.
                 if conditions::is_consistent(new) {
-                    let found = conditions::newest_weaker(conditions, absences, n, new);
-                    if let Found::Nowhere = found {
+                    if conditions::newest_weaker(conditions, absences, n, new).is_none() {
                         if n == capacity {
                             break 'entries Expanded::Full(n);
                         }

@@ -31,7 +31,6 @@ use Rattle.planning.specs.Columns.{max_entries}
 use Rattle.tree.specs.declared.Kind.{Kind}
 use Rattle.tree.specs.declared.Kind.TheVariants.{Fallback, Sequence}
 use Rattle.tree.specs.declared.Leaf.TheVariants as Leaf
-use Rattle.tree.specs.Tree as Tree
 use Rattle.tree.specs.Tree.{Tree, node}
 use Rattle.tree.specs.ReadTree.{max_tree_bytes, max_children, max_depth, branch, leaf, whole_at, kind_byte, count_width, count_at, mask_at, node_at, read_end, read_row, read_node, read_tree}
 use Rattle.tree.specs.ReadTreeLaws.{condition_whole, pair_whole, action_whole, wait_whole, branch_counted}

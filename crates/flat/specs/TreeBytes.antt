@@ -12,6 +12,7 @@ use Rattle.planning.specs.Columns.{entries_of}
 use Rattle.tree.specs.declared.Kind.{Kind}
 use Rattle.tree.specs.declared.Kind.TheVariants.{Fallback, Sequence}
 use Rattle.tree.specs.ReadTree.{kind_byte, count_width}
+use Rattle.flat.specs.declared.Entries.{Entries}
 
 -- ---- the commands
 
@@ -86,6 +87,10 @@ root_condition_at n = length (branch_bytes Fallback n)
 -- its first n entries, as far as a tree shows them: without parents and depths
 abbrev pub tree_entries : (conditions absences actions : List ℕ) → ℕ → List (Entry Condition)
 tree_entries conditions absences actions n = entries_of conditions absences actions [] [] n
+
+-- the same of a list as the code holds it
+abbrev pub entries_in : Entries → ℕ → List (Entry Condition)
+entries_in lent n = tree_entries lent.conditions.now lent.absences.now lent.actions.now n
 
 -- how many bytes the leaves of entries take
 abbrev pub leaves_size : (mine : ℕ → Bool) → List (Entry Condition) → ℕ

@@ -1,24 +1,42 @@
-// The tree of an expansion list, written to bytes (document 01, "Expansion"; document 02, W10 and W12). The list is lent as its columns of conditions,
-// second masks and actions. It is `paired` once its table has a 0x21: each condition is then written with both masks. The tree is that of one fitter:
-// where an action is the other's, he waits. Without licences all actions are the first fitter's.
+// The tree of an expansion list, written to bytes (document 01, "Expansion"; document 02, W10 and W12). The list is `paired` once its table has a 0x21:
+// each condition is then written with both masks. The tree is that of one fitter: where an action is the other's, he waits.
 #![tactic(auto)]
 
 ghost use Rattle.std.specs.Prelude.{◌≡◌, Bool, List, ◌∷◌, ◌++◌, ℕ, ◌+◌, ◌*◌, ◌≤◌, length, drop};
-ghost use Rattle.commands.specs.Commands.{JOB_LEAF_SIZE, MASK_WIDTH};
+ghost use Rattle.commands.specs.Commands.{JOB_LEAF_SIZE, PAIR_SIZE, MASK_WIDTH};
 ghost use Rattle.numbers.specs.Numbers.{to_bytes};
 ghost use Rattle.conditions.specs.declared.Condition.{Condition};
+ghost use Rattle.conditions.specs.Condition.{condition_at};
 ghost use Rattle.planning.specs.Expansion.{Entry};
 ghost use Rattle.tree.specs.ReadTree.{max_children, count_width};
-ghost use Rattle.licences.specs.Licences.{owns};
-ghost use Rattle.flat.specs.TreeBytes.{condition_bytes, leaf_bytes, end_bytes, first_bytes, entry_bytes, later_entries, own_tree, tree_entries, leaves_size, Puts};
+ghost use Rattle.licences.specs.Licences.{owned_by};
+ghost use Rattle.flat.specs.TreeBytes.{condition_bytes, leaf_bytes, end_bytes, first_bytes, entry_bytes, later_entries, own_tree, tree_entries, entries_in, leaves_size, Puts};
 
 use conditions::Condition;
-use licences::Fitter;
+use licences::Owner;
+
+// A list, lent as its columns of conditions, second masks and actions. The second masks may be lent short: past their end nothing is to be absent.
+#[derive(Clone, Copy)]
+pub struct Entries<'a> {
+    pub conditions: &'a [u64],
+    pub absences: &'a [u64],
+    pub actions: &'a [u8],
+}
+
+impl Entries<'_> {
+    pub fn condition(self, i: usize) -> Condition
+        ensures { result ≡ condition_at self.entry.conditions.now self.entry.absences.now i }
+    {
+        conditions::condition_at(self.conditions, self.absences, i)
+    }
+}
 
 // ---- sizes, by the one table of commands
 
+#[tactic(auto, using(crate::specs::TreeBytesLaws::condition_size_is))]
 fn condition_size(paired: bool) -> usize
-    ensures { (c : Condition) → result ≡ length (condition_bytes paired c) }
+    ensures small { result ≤ PAIR_SIZE }
+    ensures size { (c : Condition) → result ≡ length (condition_bytes paired c) }
 {
     if paired {
         return commands::PAIR_SIZE;
@@ -26,8 +44,10 @@ fn condition_size(paired: bool) -> usize
     commands::CONDITION_SIZE
 }
 
+#[tactic(auto, using(crate::specs::TreeBytesLaws::leaf_size_is))]
 fn leaf_size(mine: bool) -> usize
-    ensures { (action : ℕ) → result ≡ length (leaf_bytes mine action) }
+    ensures small { result ≤ JOB_LEAF_SIZE }
+    ensures size { (action : ℕ) → result ≡ length (leaf_bytes mine action) }
 {
     if mine {
         return commands::JOB_LEAF_SIZE;
@@ -36,16 +56,15 @@ fn leaf_size(mine: bool) -> usize
 }
 
 // How many bytes the leaves take that stand for the actions of the entries after the first, in the fitter's tree.
-pub fn leaves_size(n: usize, actions: &[u8], licences: &[u8], fitter: Fitter) -> usize
+#[tactic(auto, using(crate::specs::TreeBytesLaws::leaves_grown))]
+pub fn leaves_size(n: usize, actions: &[u8], owner: Owner) -> usize
     requires { (1 ≤ n) × (n ≤ max_children) × (n ≤ length actions.now) }
     ensures { (result ≤ JOB_LEAF_SIZE * max_children) × ((conditions absences : List ℕ) → result
-        ≡ leaves_size (owns licences.now fitter) (drop 1 (tree_entries conditions absences actions.now n))) }
+        ≡ leaves_size (owned_by owner.entry) (drop 1 (tree_entries conditions absences actions.now n))) }
 {
     let mut size: usize = 0;
-    let mut i: usize = 1;
-    while i < n {
-        size += leaf_size(licences::is_owner(licences, fitter, actions[i]));
-        i += 1;
+    for i in 1..n {
+        size += leaf_size(owner.owns(actions[i]));
     }
     size
 }
@@ -64,6 +83,7 @@ pub fn tree_size(paired: bool, n: usize, leaves: usize) -> usize
 // ---- the parts of a tree: each is put at an offset, and the offset past it is answered
 
 // FALLBACK or SEQUENCE, with its count.
+#[tactic(auto, using(crate::specs::TreeBytesLaws::branch_put), unfolding(numbers::specs::Numbers::to_bytes))]
 fn put_branch(tree: &mut [u8], at: usize, byte: u8, count: u16) -> usize
     requires { at + length (byte ∷ to_bytes count_width count) ≤ length tree.old }
     ensures { Puts (byte ∷ to_bytes count_width count) at tree.old tree.new result }
@@ -74,6 +94,7 @@ fn put_branch(tree: &mut [u8], at: usize, byte: u8, count: u16) -> usize
 }
 
 // CONDITION, or what a PAIR begins with: the command and its first mask.
+#[tactic(auto, using(crate::specs::TreeBytesLaws::mask_put), unfolding(numbers::specs::Numbers::to_bytes))]
 fn put_mask(tree: &mut [u8], at: usize, byte: u8, mask: u64) -> usize
     requires { at + length (byte ∷ to_bytes MASK_WIDTH mask) ≤ length tree.old }
     ensures { Puts (byte ∷ to_bytes MASK_WIDTH mask) at tree.old tree.new result }
@@ -83,6 +104,7 @@ fn put_mask(tree: &mut [u8], at: usize, byte: u8, mask: u64) -> usize
     at + commands::CONDITION_SIZE
 }
 
+#[tactic(auto, unfolding(crate::specs::TreeBytes::condition_bytes, numbers::specs::Numbers::to_bytes))]
 pub fn put_condition(tree: &mut [u8], at: usize, paired: bool, condition: Condition) -> usize
     requires { at + length (condition_bytes paired condition) ≤ length tree.old }
     ensures { Puts (condition_bytes paired condition) at tree.old tree.new result }
@@ -96,6 +118,7 @@ pub fn put_condition(tree: &mut [u8], at: usize, paired: bool, condition: Condit
 }
 
 // The leaf of an action: the action, or in the tree of the other fitter that he waits.
+#[tactic(auto, using(crate::specs::TreeBytesLaws::leaf_size_is, crate::specs::TreeBytesLaws::action_put, crate::specs::TreeBytesLaws::waiting_put), unfolding(crate::specs::TreeBytes::leaf_bytes))]
 pub fn put_leaf(tree: &mut [u8], at: usize, mine: bool, action: u8) -> usize
     requires { at + length (leaf_bytes mine action) ≤ length tree.old }
     ensures { Puts (leaf_bytes mine action) at tree.old tree.new result }
@@ -110,6 +133,7 @@ pub fn put_leaf(tree: &mut [u8], at: usize, mine: bool, action: u8) -> usize
 }
 
 // What a list of `n` entries begins with: their number, and the condition of entry 0.
+#[tactic(auto, unfolding(crate::specs::TreeBytes::first_bytes))]
 pub fn put_first(tree: &mut [u8], paired: bool, n: u16, condition: Condition) -> usize
     requires { length (first_bytes paired n condition) ≤ length tree.old }
     ensures { Puts (first_bytes paired n condition) 0 tree.old tree.new result }
@@ -119,6 +143,7 @@ pub fn put_first(tree: &mut [u8], paired: bool, n: u16, condition: Condition) ->
 }
 
 // An entry after the first.
+#[tactic(auto, unfolding(crate::specs::TreeBytes::entry_bytes))]
 pub fn put_later(
     tree: &mut [u8],
     at: usize,
@@ -149,53 +174,36 @@ pub fn put_end(tree: &mut [u8], at: usize) -> usize
 fn put_entries(
     paired: bool,
     n: usize,
-    conditions: &[u64],
-    absences: &[u64],
-    actions: &[u8],
-    licences: &[u8],
-    fitter: Fitter,
+    entries: Entries,
+    owner: Owner,
     tree: &mut [u8],
     first: usize,
 ) -> usize
-    requires { (1 ≤ n) × (n ≤ length actions.now)
-        × (first + length (later_entries (owns licences.now fitter) paired (drop 1 (tree_entries conditions.now absences.now actions.now n))) ≤ length tree.old) }
-    ensures { Puts (later_entries (owns licences.now fitter) paired
-        (drop 1 (tree_entries conditions.now absences.now actions.now n))) first
-        tree.old tree.new result }
+    requires { (1 ≤ n) × (n ≤ length entries.actions.now)
+        × (first + length (later_entries (owned_by owner) paired (drop 1 (entries_in entries n))) ≤ length tree.old) }
+    ensures { Puts (later_entries (owned_by owner.entry) paired (drop 1 (entries_in entries.entry n))) first tree.old tree.new result }
 {
     let mut at = first;
-    let mut i: usize = 1;
-    while i < n {
-        let condition = conditions::condition_at(conditions, absences, i);
-        let mine = licences::is_owner(licences, fitter, actions[i]);
-        at = put_later(tree, at, paired, condition, mine, actions[i]);
-        i += 1;
+    for i in 1..n {
+        let condition = entries.condition(i);
+        let action = entries.actions[i];
+        let mine = owner.owns(action);
+        at = put_later(tree, at, paired, condition, mine, action);
     }
     at
 }
 
-// Writes the fitter's tree of the first `n` entries, and nothing past it. The second masks may be lent short: past their end nothing is to be absent.
-pub fn write_tree(
-    paired: bool,
-    n: usize,
-    conditions: &[u64],
-    absences: &[u64],
-    actions: &[u8],
-    licences: &[u8],
-    fitter: Fitter,
-    tree: &mut [u8],
-)
-    requires { (1 ≤ n) × (n ≤ max_children) × (n ≤ length actions.now)
-        × (length (own_tree (owns licences.now fitter) paired (tree_entries conditions.now absences.now actions.now n)) ≤ length tree.old) }
+// Writes the fitter's tree of the first `n` entries, and nothing past it.
+#[tactic(auto, using(crate::specs::TreeBytesLaws::tree_room))]
+pub fn write_tree(paired: bool, n: usize, entries: Entries, owner: Owner, tree: &mut [u8])
+    requires { (1 ≤ n) × (n ≤ max_children) × (n ≤ length entries.actions.now)
+        × (length (own_tree (owned_by owner) paired (entries_in entries n)) ≤ length tree.old) }
     ensures { tree.new
-        ≡ own_tree (owns licences.now fitter) paired (tree_entries conditions.now absences.now actions.now n)
-        ++ drop (length (own_tree (owns licences.now fitter) paired
-        (tree_entries conditions.now absences.now actions.now n))) tree.old }
+        ≡ own_tree (owned_by owner.entry) paired (entries_in entries.entry n)
+        ++ drop (length (own_tree (owned_by owner.entry) paired (entries_in entries.entry n))) tree.old }
 {
-    let goal = conditions::condition_at(conditions, absences, 0);
+    let goal = entries.condition(0);
     let first = put_first(tree, paired, n as u16, goal);
-    let end = put_entries(
-        paired, n, conditions, absences, actions, licences, fitter, tree, first,
-    );
+    let end = put_entries(paired, n, entries, owner, tree, first);
     put_end(tree, end);
 }
