@@ -1,7 +1,7 @@
 -- Plans, of whatever kind: the list of a table's goal and its tree, and what of them stands in every lent slice: document 01, "Expansion", stops 10
 -- to 12; document 02, W10.
 -- Definitions only.
-use Rattle.std.specs.Prelude.{ℕ, ◌≤◌, ◌≡◌, Bool, List, [], ◌++◌, leb, length, get_or, take, drop, if◌then◌else◌}
+use Rattle.std.specs.Prelude.{ℕ, ◌≤◌, ◌≡◌, Bool, List, [], ◌++◌, leb, length, get_or, take, drop, if◌then◌else◌, Err, Ok, Result}
 use Rattle.refusal.specs.Checked.{Checked, accepted, refused, refused_by, and_then}
 use Rattle.conditions.specs.declared.Condition.{Condition}
 use Rattle.conditions.specs.Condition.{plain}
@@ -16,10 +16,6 @@ use Rattle.expander.specs.Expands.{Columns, columns, room, held, written, if_pai
 use Rattle.flat.specs.TreeBytes.{tree_bytes}
 use Rattle.builder.specs.Finish.{PlanOf, Finish, no_plan_of, after_checks_of, with_trees, finished, planned, WritesTrees, WritesLists}
 use Rattle.builder.specs.declared.Size.{Size}
-use Rattle.builder.specs.declared.Listed.{Listed}
-use Rattle.builder.specs.declared.Listed.TheVariants as L
-use Rattle.builder.specs.declared.Built.{Built}
-use Rattle.builder.specs.declared.Built.TheVariants as B
 
 -- ---- what is planned: the jobs of a table are the actions, by their numbers
 
@@ -101,16 +97,6 @@ module _ {Told : Type 0} where
 -- what every list and its tree have to tell
 abbrev pub size_of : Bool → List (Entry Condition) → Size
 size_of paired l = record { entries = length l; bytes = length (tree_bytes paired l); paired = paired }
-
--- ---- the answers of the code, in these terms
-
-abbrev pub listed_of : Listed → Checked ℕ
-listed_of (L.Entries n) = accepted n
-listed_of (L.Refused x) = refused_by x
-
-abbrev pub built_of : Built → Checked Size
-built_of (B.Whole size) = accepted size
-built_of (B.Refused x) = refused_by x
 
 -- ---- what a plan leaves in every lent slice
 

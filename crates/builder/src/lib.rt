@@ -3,17 +3,19 @@
 #![tactic(auto)]
 
 ghost use Rattle.std.specs.Prelude.{◌≡◌, ◌≤◌, length};
-ghost use Rattle.refusal.specs.Checked.{accepted};
+ghost use Rattle.refusal.specs.Checked.{accepted, answer_of};
 ghost use Rattle.table.specs.Table.{Table};
 ghost use Rattle.table.specs.Read.{read_table, headed};
 ghost use Rattle.tree.specs.ReadTree.{max_children};
 ghost use Rattle.conditions.specs.Condition.{plain};
 ghost use Rattle.expander.specs.Expands.{columns, room, Unlent, expanded_of, Expands};
-ghost use Rattle.flat.specs.TreeBytes.{tree_entries};
-ghost use Rattle.builder.specs.Plan.{table_actions, pairs, with_tree, table_plan, size_of, listed_of, built_of, WritesList, WritesTree, WritesPlan};
+ghost use Rattle.flat.specs.TreeBytes.{entries_in, tree_entries};
+ghost use Rattle.builder.specs.Plan.{table_actions, pairs, with_tree, table_plan, size_of, WritesList, WritesTree, WritesPlan};
 
+use conditions::Action;
 use expander::{Expanded, Until};
-use licences::Fitter;
+use flat::Entries;
+use licences::{Fitter, Owner};
 use refusal::{Reason, Refusal};
 use table::Header;
 
@@ -23,13 +25,6 @@ pub struct Size {
     pub entries: usize,
     pub bytes: usize,
     pub paired: bool,
-}
-
-#[derive(Clone, Copy)]
-pub enum Built {
-    // The list and its tree.
-    Whole(Size),
-    Refused(Refusal),
 }
 
 // Lists the conditions from which the jobs of a sound table lead to its goal, up to the first that ends the list. No second masks are lent where the
@@ -50,28 +45,12 @@ fn expand_goal(
         (columns conditions.new absences.new actions.new parents.new depths.new) result }
 {
     let count = header.jobs;
-    let goal = header.goal;
-    let used = expander::if_paired(header.paired, count);
-    let mut needs = [0u64; table::MAX_JOBS];
-    let mut absent = [0u64; table::MAX_JOBS];
-    let mut adds = [0u64; table::MAX_JOBS];
-    let mut deletes = [0u64; table::MAX_JOBS];
-    let mut seconds = [0u16; table::MAX_JOBS];
-    job_rows::load_jobs(
-        table,
-        count,
-        &mut needs,
-        &mut absent,
-        &mut adds,
-        &mut deletes,
-        &mut seconds,
-    );
+    let mut jobs = [Action::default(); table::MAX_JOBS];
+    job_rows::load(table, count, job::action_of, &mut jobs);
     expander::expand(
-        &needs[..count],
-        &absent[..used],
-        &adds[..count],
-        &deletes[..count],
-        goal,
+        header.paired,
+        &jobs[..count],
+        header.goal,
         until,
         conditions,
         absences,
@@ -81,29 +60,16 @@ fn expand_goal(
     )
 }
 
-// A list that ended as was asked, with its number of entries.
-#[derive(Clone, Copy)]
-pub enum Listed {
-    Entries(usize),
-    Refused(Refusal),
-}
-
-fn refuse(reason: Reason, place: usize) -> Listed
-    ensures { result ≡ Listed.Refused (record { reason = reason; place = place }) }
-{
-    Listed::Refused(Refusal { reason, place })
-}
-
-// Without a start there is no way to miss: every entry expanded is what was asked for.
-fn as_listed(until: Until, expanded: Expanded) -> Listed
-    ensures { listed_of result ≡ expanded_of until expanded }
+// The number of entries of a list that ended as was asked. Without a start there is no way to miss: every entry expanded is what was asked for.
+fn as_listed(until: Until, expanded: Expanded) -> Result<usize, Refusal>
+    ensures { answer_of result ≡ expanded_of until expanded }
 {
     match expanded {
-        Expanded::Full(n) => refuse(Reason::ListFull, n),
-        Expanded::Covered(n) => Listed::Entries(n),
+        Expanded::Full(n) => Err(Reason::ListFull.at(n)),
+        Expanded::Covered(n) => Ok(n),
         Expanded::Exhausted(n) => match until {
-            Until::Covers(_) => refuse(Reason::NoWay, n),
-            Until::Never => Listed::Entries(n),
+            Until::Covers(_) => Err(Reason::NoWay.at(n)),
+            Until::Never => Ok(n),
         },
     }
 }
@@ -119,11 +85,11 @@ pub fn list_goal(
     actions: &mut [u8],
     parents: &mut [u16],
     depths: &mut [u16],
-) -> Listed
+) -> Result<usize, Refusal>
     requires { accepted header ≡ headed (read_table table.now) }
     ensures { (t : Table) → accepted t ≡ read_table table.now → WritesList until t
         (columns conditions.old absences.old actions.old parents.old depths.old)
-        (columns conditions.new absences.new actions.new parents.new depths.new) (listed_of result) }
+        (columns conditions.new absences.new actions.new parents.new depths.new) (answer_of result) }
 {
     let used = expander::if_paired(header.paired, absences.len());
     let expanded = expand_goal(
@@ -140,39 +106,23 @@ pub fn list_goal(
 }
 
 // Writes the tree of the list's first n entries, where it has room. There are no licences, so that every job is one fitter's.
-fn fit_tree(
-    paired: bool,
-    n: usize,
-    conditions: &[u64],
-    absences: &[u64],
-    actions: &[u8],
-    tree: &mut [u8],
-) -> Built
-    requires { (1 ≤ n) × (n ≤ max_children) × (n ≤ length conditions.now) × (n ≤ length actions.now) }
+fn fit_tree(paired: bool, n: usize, entries: Entries, tree: &mut [u8]) -> Result<Size, Refusal>
+    requires { (1 ≤ n) × (n ≤ max_children) × (n ≤ length entries.conditions.now) × (n ≤ length entries.actions.now) }
     ensures { WritesTree
-        (with_tree paired (length tree.old) (size_of paired (tree_entries conditions.now absences.now actions.now n))
-        (tree_entries conditions.now absences.now actions.now n))
-        tree.old tree.new (built_of result) }
+        (with_tree paired (length tree.old) (size_of paired (entries_in entries.entry n)) (entries_in entries.entry n))
+        tree.old tree.new (answer_of result) }
 {
     let leaves = commands::JOB_LEAF_SIZE * (n - 1);
     let bytes = flat::tree_size(paired, n, leaves);
     if tree.len() < bytes {
-        return Built::Refused(Refusal {
-            reason: Reason::TreeTooShort,
-            place: n,
-        });
+        return Err(Reason::TreeTooShort.at(n));
     }
-    flat::write_tree(
-        paired,
-        n,
-        conditions,
-        absences,
-        actions,
-        &actions[..0],
-        Fitter::First,
-        tree,
-    );
-    Built::Whole(Size {
+    let everyone = Owner {
+        licences: &[],
+        fitter: Fitter::First,
+    };
+    flat::write_tree(paired, n, entries, everyone, tree);
+    Ok(Size {
         entries: n,
         bytes,
         paired,
@@ -190,7 +140,7 @@ pub fn build(
     parents: &mut [u16],
     depths: &mut [u16],
     tree: &mut [u8],
-) -> Built
+) -> Result<Size, Refusal>
     requires { accepted header ≡ headed (read_table table.now) }
     ensures { (t : Table) → accepted t ≡ read_table table.now → WritesPlan
         (table_plan until t
@@ -198,13 +148,16 @@ pub fn build(
         (length tree.old) (size_of (pairs t)))
         (columns conditions.old absences.old actions.old parents.old depths.old)
         (columns conditions.new absences.new actions.new parents.new depths.new)
-        tree.old tree.new (built_of result) }
+        tree.old tree.new (answer_of result) }
 {
     let paired = header.paired;
-    match list_goal(
+    let n = list_goal(
         table, header, until, conditions, absences, actions, parents, depths,
-    ) {
-        Listed::Refused(x) => Built::Refused(x),
-        Listed::Entries(n) => fit_tree(paired, n, conditions, absences, actions, tree),
-    }
+    )?;
+    let entries = Entries {
+        conditions,
+        absences,
+        actions,
+    };
+    fit_tree(paired, n, entries, tree)
 }

@@ -1,7 +1,7 @@
 -- The plan for a vehicle, from the bytes of a table and a start reading: document 01, "Expansion", "Job card", the table's stops and 8 to 12.
 -- Definitions only.
 use Rattle.std.specs.Prelude.{ℕ, zero, ◌+◌, Bool, List, [], ◌∷◌, length, get_or}
-use Rattle.refusal.specs.Checked.{Checked, accepted, refused_by, and_then}
+use Rattle.refusal.specs.Checked.{Checked, accepted, and_then}
 use Rattle.reading.specs.declared.Reading.{Reading}
 use Rattle.reading.specs.Reading.{checked_start}
 use Rattle.conditions.specs.declared.Condition.{Condition}
@@ -17,8 +17,6 @@ use Rattle.flat.specs.TreeBytes.{tree_bytes}
 use Rattle.runs.specs.Runs.{tick_on}
 use Rattle.builder.specs.Plan.{table_domain, pairs, Plan, table_plan, after_checks}
 use Rattle.planner.specs.declared.Summary.{Summary}
-use Rattle.planner.specs.declared.Planned.{Planned}
-use Rattle.planner.specs.declared.Planned.TheVariants as P
 
 -- ---- the way from the start, and its time
 
@@ -54,7 +52,3 @@ unfoldable pub plan_for : List ℕ → Reading → (Bool → ℕ) → ℕ → Pl
 plan_for table start capacity room = after_checks (start_for table start) λ t. table_plan (Covers start.held) t capacity room (summary_of (tick_on table) t start.held)
 
 -- ---- the answer of the code, in these terms
-
-abbrev pub planned_of : Planned → Checked Summary
-planned_of (P.Built p) = accepted p
-planned_of (P.Refused x) = refused_by x

@@ -1,7 +1,8 @@
 -- What the plan for a start promises: demand 3.
 -- Definitions only; PromiseLaws.antt shows that every plan keeps it.
-use Rattle.std.specs.Prelude.{ℕ, suc, ◌-◌, ◌≡◌, Bool, true, List, ◌⊎◌, length}
-use Rattle.refusal.specs.Checked.{accepted, refused}
+use Rattle.std.specs.Prelude.{ℕ, suc, ◌-◌, ◌≡◌, Bool, true, List, ◌⊎◌, length, Result}
+use Rattle.refusal.specs.declared.Refusal.{Refusal}
+use Rattle.refusal.specs.Checked.{accepted, refused, answer_of}
 use Rattle.reading.specs.declared.Reading.{Reading}
 use Rattle.reading.specs.Reading.{sound}
 use Rattle.table.specs.Table.{Table}
@@ -15,8 +16,7 @@ use Rattle.runs.specs.Runs.{tick_on}
 use Rattle.builder.specs.Plan.{table_domain, pairs, Plan, WritesPlan}
 use Rattle.builder.specs.Works.{FewestJobs, Irredundant, NoRoom}
 use Rattle.planner.specs.declared.Summary.{Summary}
-use Rattle.planner.specs.declared.Planned.{Planned}
-use Rattle.planner.specs.Plan.{way_of, plan_for, planned_of}
+use Rattle.planner.specs.Plan.{way_of, plan_for}
 
 -- Of the table t that was read from the bytes, a start, and the plan P with room for so many entries, by whether the list is paired, and so many bytes
 -- of a tree:
@@ -38,7 +38,7 @@ pub record Keeps (t : Table) (table : List ℕ) (start : Reading) (capacity : Bo
   pub irredundant : Irredundant t P.list
 
 -- What the planner's entry point gives: the plan of the definition in every lent slice, and the promises about it.
-pub record Plans (table : List ℕ) (start : Reading) (before after : Columns) (lent tree : List ℕ) (r : Planned) : Type 0 where
-  pub writes : WritesPlan (plan_for table start (room before) (length lent)) before after lent tree (planned_of r)
+pub record Plans (table : List ℕ) (start : Reading) (before after : Columns) (lent tree : List ℕ) (r : (Result Summary Refusal)) : Type 0 where
+  pub writes : WritesPlan (plan_for table start (room before) (length lent)) before after lent tree (answer_of r)
   pub keeps : (t : Table) → read_table table ≡ accepted t
       → Keeps t table start (room before) (length lent) (plan_for table start (room before) (length lent))

@@ -1,9 +1,10 @@
 -- Every plan for a start keeps its promises.
 -- Assumes nothing.
-use Rattle.std.specs.Prelude.{ℕ, suc, ◌-◌, ◌≤◌, ◌≡◌, Bool, true, List, [], ◌⊎◌, length}
+use Rattle.std.specs.Prelude.{ℕ, suc, ◌-◌, ◌≤◌, ◌≡◌, Bool, true, List, [], ◌⊎◌, length, Result}
 use Rattle.std.proofs.Common.{not-suc-le-zero, arith, sym, ap, ◌∙◌, subst, ⊎_elim, inl, inr}
 use Rattle.base.specs.Bools.{holds}
-use Rattle.refusal.specs.Checked.{Checked, accepted, refused, and_then}
+use Rattle.refusal.specs.declared.Refusal.{Refusal}
+use Rattle.refusal.specs.Checked.{Checked, accepted, refused, and_then, answer_of}
 use Rattle.refusal.specs.CheckedLaws.{not_both}
 use Rattle.reading.specs.declared.Reading.{Reading}
 use Rattle.reading.specs.Reading.{sound}
@@ -28,8 +29,7 @@ use Rattle.builder.specs.PlanLaws.{covered_told, columns_few, plan_list, whole_t
 use Rattle.builder.specs.Works.{FewestJobs, Irredundant, NoRoom}
 use Rattle.builder.specs.WorksLaws.{separate, list_irredundant, list_works, plan_stops}
 use Rattle.planner.specs.declared.Summary.{Summary}
-use Rattle.planner.specs.declared.Planned.{Planned}
-use Rattle.planner.specs.Plan.{way_of, summary_of, start_for, plan_for, planned_of}
+use Rattle.planner.specs.Plan.{way_of, summary_of, start_for, plan_for}
 use Rattle.planner.specs.PlanLaws.{way_is_path}
 use Rattle.planner.specs.Promise.{Keeps, Plans}
 
@@ -120,8 +120,8 @@ module _ (table : List ℕ) (b : AreBytes table) (t : Table) (e : read_table tab
       not_11 : (n p : ℕ) → ◌≡◌ {A = Checked Summary} (refused n 0) (refused 11 p) → (n ≡ 11 → ⊥) → ⊥
       not_11 n p a k = k (cc)
 
-pub plan_kept : (table : List ℕ) → AreBytes table → (start : Reading) (before after : Columns) (lent tree : List ℕ) (r : Planned)
-    → WritesPlan (plan_for table start (room before) (length lent)) before after lent tree (planned_of r) → Plans table start before after lent tree r
+pub plan_kept : (table : List ℕ) → AreBytes table → (start : Reading) (before after : Columns) (lent tree : List ℕ) (r : (Result Summary Refusal))
+    → WritesPlan (plan_for table start (room before) (length lent)) before after lent tree (answer_of r) → Plans table start before after lent tree r
 plan_kept table b start before after lent tree r w =
     record {
       writes = w;

@@ -3,8 +3,8 @@
 #![tactic(auto)]
 
 ghost use Rattle.std.specs.Prelude.{◌≡◌, suc, ◌-◌, length};
-ghost use Rattle.refusal.specs.Checked.{accepted};
-ghost use Rattle.table.specs.Read.{read_table, jobs_of, headed, table_read_of};
+ghost use Rattle.refusal.specs.Checked.{accepted, answer_of};
+ghost use Rattle.table.specs.Read.{read_table, jobs_of, headed};
 ghost use Rattle.planning.specs.Listing.{path};
 ghost use Rattle.minutes.specs.Minutes.{nearest};
 ghost use Rattle.expander.specs.Expands.{columns};
@@ -12,11 +12,11 @@ ghost use Rattle.planner.specs.Way.{linked, Linked, Traced, row_seconds, InTime}
 ghost use Rattle.planner.specs.Plan.{seconds_of, start_for};
 ghost use Rattle.planner.specs.Promise.{Plans};
 
-use builder::{Built, Size};
+use builder::Size;
 use expander::Until;
-use reading::{Reading, ReadingChecked};
+use reading::Reading;
 use refusal::Refusal;
-use table::{Header, TableRead};
+use table::Header;
 
 // What a plan gives besides its list and tree. The jobs and the minutes are those of the way from the start; `paired` where list and tree hold second
 // masks.
@@ -29,23 +29,13 @@ pub struct Summary {
     pub paired: bool,
 }
 
-#[derive(Clone, Copy)]
-pub enum Planned {
-    Built(Summary),
-    Refused(Refusal),
-}
-
 // The table, and the start under it.
-fn start_for(table: &[u8], start: Reading) -> TableRead
-    ensures { table_read_of result ≡ headed (start_for table.now start) }
+fn start_for(table: &[u8], start: Reading) -> Result<Header, Refusal>
+    ensures { answer_of result ≡ headed (start_for table.now start) }
 {
-    match table::read_table(table) {
-        TableRead::Refused(x) => TableRead::Refused(x),
-        TableRead::Sound(header) => match reading::check_start(header.facts, start) {
-            ReadingChecked::Refused(x) => TableRead::Refused(x),
-            ReadingChecked::Sound(_) => TableRead::Sound(header),
-        },
-    }
+    let header = table::read_table(table)?;
+    reading::check_start(header.facts, start)?;
+    Ok(header)
 }
 
 // The listed seconds from entry `last` along the parents to entry 0, by a row of the jobs' seconds.
@@ -83,32 +73,17 @@ fn summarize(
     } }
 {
     let count = header.jobs;
-    let entries = size.entries;
-    let bytes = size.bytes;
-    let paired = size.paired;
-    let last = entries - 1;
+    let last = size.entries - 1;
     let jobs = depths[last] as usize;
-    let mut needs = [0u64; table::MAX_JOBS];
-    let mut absent = [0u64; table::MAX_JOBS];
-    let mut adds = [0u64; table::MAX_JOBS];
-    let mut deletes = [0u64; table::MAX_JOBS];
     let mut seconds = [0u16; table::MAX_JOBS];
-    job_rows::load_jobs(
-        table,
-        count,
-        &mut needs,
-        &mut absent,
-        &mut adds,
-        &mut deletes,
-        &mut seconds,
-    );
+    job_rows::load(table, count, |job| job.seconds, &mut seconds);
     let minutes = minutes::whole_minutes(way_seconds(&seconds[..count], last, actions, parents));
     Summary {
-        entries,
-        bytes,
+        entries: size.entries,
+        bytes: size.bytes,
         jobs,
         minutes,
-        paired,
+        paired: size.paired,
     }
 }
 
@@ -124,31 +99,23 @@ pub fn plan(
     parents: &mut [u16],
     depths: &mut [u16],
     tree: &mut [u8],
-) -> Planned
+) -> Result<Summary, Refusal>
     ensures { Plans table.now start
         (columns conditions.old absences.old actions.old parents.old depths.old)
         (columns conditions.new absences.new actions.new parents.new depths.new)
         tree.old tree.new result }
 {
-    match start_for(table, start) {
-        TableRead::Refused(x) => Planned::Refused(x),
-        TableRead::Sound(header) => {
-            match builder::build(
-                table,
-                header,
-                Until::Covers(start.held),
-                conditions,
-                absences,
-                actions,
-                parents,
-                depths,
-                tree,
-            ) {
-                Built::Refused(x) => Planned::Refused(x),
-                Built::Whole(size) => {
-                    Planned::Built(summarize(table, header, size, actions, parents, depths))
-                }
-            }
-        }
-    }
+    let header = start_for(table, start)?;
+    let size = builder::build(
+        table,
+        header,
+        Until::Covers(start.held),
+        conditions,
+        absences,
+        actions,
+        parents,
+        depths,
+        tree,
+    )?;
+    Ok(summarize(table, header, size, actions, parents, depths))
 }

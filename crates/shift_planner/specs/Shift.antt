@@ -1,7 +1,8 @@
 -- The plan for the whole shift, from a table alone, and what it promises: document 02, W2.
 -- Definitions only; ShiftLaws.antt shows that every such plan keeps it.
-use Rattle.std.specs.Prelude.{ℕ, ◌≡◌, Bool, List, ◌↔◌, length}
-use Rattle.refusal.specs.Checked.{accepted, refused}
+use Rattle.std.specs.Prelude.{ℕ, ◌≡◌, Bool, List, ◌↔◌, length, Result}
+use Rattle.refusal.specs.declared.Refusal.{Refusal}
+use Rattle.refusal.specs.Checked.{accepted, refused, answer_of}
 use Rattle.table.specs.Table.{Table}
 use Rattle.table.specs.Read.{read_table}
 use Rattle.planning.specs.Sequence.{Reaches}
@@ -9,8 +10,7 @@ use Rattle.planning.specs.Demand.{CoveredBy}
 use Rattle.expander.specs.declared.Until.TheVariants.{Never}
 use Rattle.expander.specs.Expands.{Columns, room}
 use Rattle.builder.specs.declared.Size.{Size}
-use Rattle.builder.specs.declared.Built.{Built}
-use Rattle.builder.specs.Plan.{table_domain, pairs, Plan, table_plan, after_checks, size_of, built_of, WritesPlan}
+use Rattle.builder.specs.Plan.{table_domain, pairs, Plan, table_plan, after_checks, size_of, WritesPlan}
 use Rattle.builder.specs.Works.{FewestJobs, Irredundant, NoRoom}
 
 -- "This plan takes no start and stops only when all entries are expanded or number 10 arises."
@@ -29,7 +29,7 @@ pub record Serves (t : Table) (table : List ℕ) (capacity : Bool → ℕ) (room
   pub irredundant : Irredundant t P.list
 
 -- What the entry point gives.
-pub record PlansShift (table : List ℕ) (before after : Columns) (lent tree : List ℕ) (r : Built) : Type 0 where
-  pub writes : WritesPlan (plan_shift table (room before) (length lent)) before after lent tree (built_of r)
+pub record PlansShift (table : List ℕ) (before after : Columns) (lent tree : List ℕ) (r : (Result Size Refusal)) : Type 0 where
+  pub writes : WritesPlan (plan_shift table (room before) (length lent)) before after lent tree (answer_of r)
   pub serves : (t : Table) → read_table table ≡ accepted t
       → Serves t table (room before) (length lent) (plan_shift table (room before) (length lent))

@@ -1,8 +1,9 @@
 -- Every plan for the whole shift keeps its promises.
 -- Assumes nothing.
-use Rattle.std.specs.Prelude.{ℕ, ◌≤◌, ◌≡◌, refl, Bool, false, List, ◌↔◌, length}
+use Rattle.std.specs.Prelude.{ℕ, ◌≤◌, ◌≡◌, refl, Bool, false, List, ◌↔◌, length, Result}
 use Rattle.std.proofs.Common.{arith, sym, ap, ◌∙◌, ⊎_elim}
-use Rattle.refusal.specs.Checked.{accepted, refused}
+use Rattle.refusal.specs.declared.Refusal.{Refusal}
+use Rattle.refusal.specs.Checked.{accepted, refused, answer_of}
 use Rattle.refusal.specs.CheckedLaws.{not_both, accepted_same}
 use Rattle.conditions.specs.declared.Condition.{Condition}
 use Rattle.conditions.specs.Condition.{plain}
@@ -19,8 +20,7 @@ use Rattle.planning.proofs.FactLaws.{fact_plannable, fact_covered_iff, fact_unen
 use Rattle.expander.specs.declared.Until.TheVariants.{Never}
 use Rattle.expander.specs.Expands.{Columns, room, listed_by}
 use Rattle.builder.specs.declared.Size.{Size}
-use Rattle.builder.specs.declared.Built.{Built}
-use Rattle.builder.specs.Plan.{table_actions, table_domain, pairs, Plan, no_plan, plan_by, table_plan, size_of, built_of, WritesPlan}
+use Rattle.builder.specs.Plan.{table_actions, table_domain, pairs, Plan, no_plan, plan_by, table_plan, size_of, WritesPlan}
 use Rattle.builder.specs.PlanLaws.{columns_few, plan_list, whole_told}
 use Rattle.builder.specs.Works.{FewestJobs, NoRoom}
 use Rattle.builder.specs.WorksLaws.{separate, list_irredundant, list_works, plan_stops}
@@ -99,8 +99,8 @@ module _ (table : List ℕ) (capacity : Bool → ℕ) (size : ℕ) where
   unfolding plan_shift
   shift_read t e = rw (← e)
 
-pub shift_kept : (table : List ℕ) → AreBytes table → (before after : Columns) (lent tree : List ℕ) (r : Built)
-    → WritesPlan (plan_shift table (room before) (length lent)) before after lent tree (built_of r) → PlansShift table before after lent tree r
+pub shift_kept : (table : List ℕ) → AreBytes table → (before after : Columns) (lent tree : List ℕ) (r : (Result Size Refusal))
+    → WritesPlan (plan_shift table (room before) (length lent)) before after lent tree (answer_of r) → PlansShift table before after lent tree r
 shift_kept table b before after lent tree r w =
     record {
       writes = w;

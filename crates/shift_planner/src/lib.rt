@@ -4,9 +4,9 @@
 ghost use Rattle.expander.specs.Expands.{columns};
 ghost use Rattle.shift_planner.specs.Shift.{PlansShift};
 
-use builder::Built;
+use builder::Size;
 use expander::Until;
-use table::TableRead;
+use refusal::Refusal;
 
 // Plans for the whole shift: any table, any lent tables. `PlansShift` says what stands in every lent slice afterwards, and what
 // holds of the plan: its conditions cover exactly the states from which some sequence of jobs leads to the goal, and from each of
@@ -19,24 +19,22 @@ pub fn plan_shift(
     parents: &mut [u16],
     depths: &mut [u16],
     tree: &mut [u8],
-) -> Built
+) -> Result<Size, Refusal>
     ensures { PlansShift table.now
         (columns conditions.old absences.old actions.old parents.old depths.old)
         (columns conditions.new absences.new actions.new parents.new depths.new)
         tree.old tree.new result }
 {
-    match table::read_table(table) {
-        TableRead::Refused(x) => Built::Refused(x),
-        TableRead::Sound(header) => builder::build(
-            table,
-            header,
-            Until::Never,
-            conditions,
-            absences,
-            actions,
-            parents,
-            depths,
-            tree,
-        ),
-    }
+    let header = table::read_table(table)?;
+    builder::build(
+        table,
+        header,
+        Until::Never,
+        conditions,
+        absences,
+        actions,
+        parents,
+        depths,
+        tree,
+    )
 }

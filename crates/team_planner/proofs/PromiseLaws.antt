@@ -1,10 +1,11 @@
 -- Every plan for two fitters keeps its promises.
 -- Assumes nothing.
-use Rattle.std.specs.Prelude.{ℕ, suc, ◌≤◌, ◌<◌, ◌≡◌, refl, Bool, true, List, [], ◌∷◌, ◌⊎◌, T, length, get_or}
+use Rattle.std.specs.Prelude.{ℕ, suc, ◌≤◌, ◌<◌, ◌≡◌, refl, Bool, true, List, [], ◌∷◌, ◌⊎◌, T, length, get_or, Result}
 use Rattle.std.proofs.Common.{not-suc-le-zero, arith, sym, ap, ◌∙◌, subst, ⊎_elim, inl, inr}
 use Rattle.base.specs.Bools.{is_true}
 use Rattle.masks.specs.Sets.{within}
-use Rattle.refusal.specs.Checked.{Checked, accepted, refused, and_then}
+use Rattle.refusal.specs.declared.Refusal.{Refusal}
+use Rattle.refusal.specs.Checked.{Checked, accepted, refused, and_then, answer_of}
 use Rattle.refusal.specs.CheckedLaws.{not_both, accepted_same}
 use Rattle.reading.specs.declared.Reading.{Reading}
 use Rattle.reading.specs.Reading.{sound, state, checked_start}
@@ -43,8 +44,7 @@ use Rattle.builder.specs.PlanLaws.{covered_told, columns_few}
 use Rattle.builder.specs.Works.{Works, Irredundant}
 use Rattle.builder.specs.WorksLaws.{separate, list_irredundant, goal_covered, list_fewest, list_answer, list_serves, state_agrees, kind_stops}
 use Rattle.team_planner.specs.declared.TeamSize.{TeamSize}
-use Rattle.team_planner.specs.declared.TeamPlanned.{TeamPlanned}
-use Rattle.team_planner.specs.Team.{TeamPlan, no_trees, fitter_tree, team_size, two_trees, team_by, team_plan, team_for, plan_team, team_of, WritesTeam}
+use Rattle.team_planner.specs.Team.{TeamPlan, no_trees, fitter_tree, team_size, two_trees, team_by, team_plan, team_for, plan_team, WritesTeam}
 use Rattle.team_planner.proofs.TeamLaws.{not_both_fit}
 use Rattle.team_planner.specs.Promise.{told_to, joint_on, Shared, TeamWorks, NoTeamRoom, TeamKeeps, PlansTeam}
 
@@ -258,8 +258,8 @@ module _ (table : List ℕ) (b : AreBytes table) (t : Table) (e : read_table tab
       not_11 : (n k p : ℕ) → (n ≡ 24) ⊎ (n ≡ 8) ⊎ (n ≡ 9) → ◌≡◌ {A = Checked TeamSize} (refused n k) (refused 11 p) → ⊥
       not_11 n k p h a = let is : n ≡ 11 = cc in ⊎_elim (λ x. omega arith) (⊎_elim (λ x. omega arith) (λ x. omega arith)) h
 
-pub team_kept : (table : List ℕ) → AreBytes table → (licences : List ℕ) (start : Reading) (before after : Columns) (lent trees : Fitter → List ℕ) (r : TeamPlanned)
-    → WritesTeam (plan_team table licences start (room before) (λ fitter. length (lent fitter))) before after lent trees (team_of r)
+pub team_kept : (table : List ℕ) → AreBytes table → (licences : List ℕ) (start : Reading) (before after : Columns) (lent trees : Fitter → List ℕ) (r : (Result TeamSize Refusal))
+    → WritesTeam (plan_team table licences start (room before) (λ fitter. length (lent fitter))) before after lent trees (answer_of r)
     → PlansTeam table licences start before after lent trees r
 team_kept table b licences start before after lent trees r w =
     record { writes = w; keeps = λ t e. every_team table b t e licences start (room before) (λ fitter. length (lent fitter)) (columns_few before) }

@@ -1,8 +1,9 @@
 -- What the plan for two fitters promises: document 02, W12, and demand 3 for both together.
 -- Definitions only; PromiseLaws.antt shows that every plan keeps it.
-use Rattle.std.specs.Prelude.{ℕ, suc, ◌<◌, ◌≡◌, Bool, true, List, ◌⊎◌, T, length, get_or}
+use Rattle.std.specs.Prelude.{ℕ, suc, ◌<◌, ◌≡◌, Bool, true, List, ◌⊎◌, T, length, get_or, Result}
 use Rattle.masks.specs.Sets.{within}
-use Rattle.refusal.specs.Checked.{Checked, accepted, refused, and_then}
+use Rattle.refusal.specs.declared.Refusal.{Refusal}
+use Rattle.refusal.specs.Checked.{Checked, accepted, refused, and_then, answer_of}
 use Rattle.reading.specs.declared.Reading.{Reading}
 use Rattle.reading.specs.Reading.{sound, state}
 use Rattle.conditions.specs.declared.Condition.{Condition}
@@ -24,8 +25,7 @@ use Rattle.expander.specs.Expands.{Columns, room}
 use Rattle.builder.specs.Plan.{table_domain, pairs}
 use Rattle.builder.specs.Works.{Works, Irredundant}
 use Rattle.team_planner.specs.declared.TeamSize.{TeamSize}
-use Rattle.team_planner.specs.declared.TeamPlanned.{TeamPlanned}
-use Rattle.team_planner.specs.Team.{TeamPlan, fitter_tree, plan_team, team_of, WritesTeam}
+use Rattle.team_planner.specs.Team.{TeamPlan, fitter_tree, plan_team, WritesTeam}
 
 -- ---- the run of both trees: it "ticks both on the same state until neither names a job"
 
@@ -91,7 +91,7 @@ pub record TeamKeeps (t : Table) (table licences : List ℕ) (start : Reading) (
   pub irredundant : Irredundant t P.list
 
 -- What the entry point gives: the plan of the definition in every lent slice, and the promises about it.
-pub record PlansTeam (table licences : List ℕ) (start : Reading) (before after : Columns) (lent trees : Fitter → List ℕ) (r : TeamPlanned) : Type 0 where
-  pub writes : WritesTeam (plan_team table licences start (room before) (λ fitter. length (lent fitter))) before after lent trees (team_of r)
+pub record PlansTeam (table licences : List ℕ) (start : Reading) (before after : Columns) (lent trees : Fitter → List ℕ) (r : (Result TeamSize Refusal)) : Type 0 where
+  pub writes : WritesTeam (plan_team table licences start (room before) (λ fitter. length (lent fitter))) before after lent trees (answer_of r)
   pub keeps : (t : Table) → read_table table ≡ accepted t
       → TeamKeeps t table licences start (room before) (λ fitter. length (lent fitter)) (plan_team table licences start (room before) (λ fitter. length (lent fitter)))

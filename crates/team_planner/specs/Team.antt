@@ -1,7 +1,7 @@
 -- The plan for two fitters at one vehicle, from the bytes of a table, the licences of its jobs and a start reading: document 02, W12.
 -- Definitions only.
 use Rattle.std.specs.Prelude.{ℕ, Bool, ◌&&◌, List, [], leb, length}
-use Rattle.refusal.specs.Checked.{Checked, accepted, refused_by, and_then}
+use Rattle.refusal.specs.Checked.{Checked, accepted, and_then}
 use Rattle.reading.specs.declared.Reading.{Reading}
 use Rattle.reading.specs.Reading.{checked_start}
 use Rattle.conditions.specs.declared.Condition.{Condition}
@@ -17,8 +17,6 @@ use Rattle.flat.specs.TreeBytes.{own_tree}
 use Rattle.builder.specs.Finish.{PlanOf, Finish, after_checks_of, planned, WritesLists}
 use Rattle.builder.specs.Plan.{pairs, table_list, AtFront}
 use Rattle.team_planner.specs.declared.TeamSize.{TeamSize}
-use Rattle.team_planner.specs.declared.TeamPlanned.{TeamPlanned}
-use Rattle.team_planner.specs.declared.TeamPlanned.TheVariants as T
 
 -- something of each fitter's
 abbrev pub of_each : {A : Type 0} → (first second : A) → Fitter → A
@@ -66,10 +64,6 @@ unfoldable pub plan_team : List ℕ → List ℕ → Reading → (Bool → ℕ) 
 plan_team table licences start capacity room = after_checks_of no_trees (team_for table licences start) λ t. team_plan licences t start.held capacity room
 
 -- ---- the answer of the code, in these terms
-
-abbrev pub team_of : TeamPlanned → Checked TeamSize
-team_of (T.Built size) = accepted size
-team_of (T.Refused x) = refused_by x
 
 -- ---- what a plan leaves in every lent slice
 

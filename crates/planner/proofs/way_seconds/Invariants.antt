@@ -1,14 +1,10 @@
 -- `planner::way_seconds` meets its contract. The loop's invariant: the seconds so far and those of the rest of the way are the whole way's.
 -- So no sum of the loop exceeds the way's, which has room: each job is listed with at most 5,400 seconds, and at most 4,095 are on the way.
 -- The measure is the entry, since each parent is an earlier one.
-use borrow.Author.Rules.{rules}
-use native.Mathlib.Omega.{arith}
 use mathlib.Core.Path.{◌≡◌}
-use Prim.Native.Nat.{ℕ, suc, ◌+◌, ◌≤◌, ◌<◌}
-use lib.ListN.{length, get_or}
+use Prim.Native.Nat.{◌+◌, ◌≤◌}
 use Rattle.planning.specs.Listing.{path}
 use Rattle.planner.specs.Way.{linked, row_seconds}
-use Rattle.planner.specs.WayLaws.{way_most, seconds_step, link_earlier, link_known}
 use Rattle.planner.proofs.way_seconds.Given as goal
 
 abbrev pub invariant-loop-i : goal.invariant-loop-i
