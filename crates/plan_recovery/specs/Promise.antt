@@ -1,14 +1,14 @@
 -- What is promised of a list that is recovered from a tree: document 02, W7.
 -- Definitions only; RecoveryLaws.antt shows that every answer keeps it.
-use Rattle.std.specs.Prelude.{ℕ, ◌≤◌, ◌<◌, ◌≡◌, false, List, ◌↔◌, length}
-use Rattle.refusal.specs.Checked.{Checked, accepted, refused}
+use Rattle.std.specs.Prelude.{ℕ, ◌≤◌, ◌<◌, ◌≡◌, false, List, ◌↔◌, length, Result}
+use Rattle.refusal.specs.declared.Refusal.{Refusal}
+use Rattle.refusal.specs.Checked.{Checked, accepted, refused, answer_of}
 use Rattle.reading.specs.declared.Reading.{Reading}
 use Rattle.conditions.specs.declared.Condition.{Condition}
 use Rattle.table.specs.Table.{Table}
 use Rattle.planning.specs.Expansion.{Entry}
 use Rattle.expander.specs.Expands.{Columns, room}
-use Rattle.builder.specs.declared.Listed.{Listed}
-use Rattle.builder.specs.Plan.{pairs, Plan, listed_of}
+use Rattle.builder.specs.Plan.{pairs, Plan}
 use Rattle.planner.specs.declared.Summary.{Summary}
 use Rattle.planner.specs.Plan.{plan_for}
 use Rattle.shift_planner.specs.Shift.{plan_shift}
@@ -46,6 +46,6 @@ pub record Restores (t : Table) (table tree : List ℕ) (entries : ℕ) (due : C
       → (s : ℕ) × PlannedFor t table tree s (plan_shift table (room lists) size).list
 
 -- What the entry point gives.
-pub record Recovers (table tree : List ℕ) (before after : Columns) (r : Listed) : Type 0 where
-  pub writes : WritesBack (recovered table tree (room before false)) before after (listed_of r)
+pub record Recovers (table tree : List ℕ) (before after : Columns) (r : (Result ℕ Refusal)) : Type 0 where
+  pub writes : WritesBack (recovered table tree (room before false)) before after (answer_of r)
   pub restores : (t : Table) → sound_tree table tree ≡ accepted t → Restores t table tree (room before false) (recovered table tree (room before false))

@@ -1,7 +1,7 @@
 -- A list is recovered from exactly the trees that plans write. The plan for a list's last condition, as the start, gives that list again, so that one
 -- plan tells whether there is any.
 -- Assumes nothing.
-use Rattle.std.specs.Prelude.{ℕ, suc, ◌-◌, ◌≤◌, ◌<◌, ◌≡◌, refl, Bool, ◌↔◌, ◌⊎◌, T, if◌then◌else◌}
+use Rattle.std.specs.Prelude.{ℕ, suc, ◌-◌, ◌≤◌, ◌<◌, ◌≡◌, refl, Bool, ◌↔◌, ◌⊎◌, T, if◌then◌else◌, Result}
 use native.Mathlib.Omega.{arith}
 use Rattle.std.proofs.Math.Path.{sym, ap, subst}
 use Rattle.std.proofs.Common.{◌∙◌, inl, inr, ⊎_elim, T_not}
@@ -14,7 +14,8 @@ use Rattle.base.specs.Bools.{holds, fails, is_true, and_left}
 use Rattle.base.specs.Lists.{prefix, prefix_all}
 use Rattle.masks.specs.Sets.{within}
 use Rattle.masks.specs.Laws.{within_word}
-use Rattle.refusal.specs.Checked.{Checked, accepted, refused, and_then}
+use Rattle.refusal.specs.declared.Refusal.{Refusal}
+use Rattle.refusal.specs.Checked.{Checked, accepted, refused, and_then, answer_of}
 use Rattle.refusal.specs.CheckedLaws.{not_both, accepted_same, accepted_then}
 use Rattle.numbers.specs.Numbers.{AreBytes}
 use Rattle.reading.specs.declared.Reading.{Reading}
@@ -40,8 +41,7 @@ use Rattle.expander.specs.declared.Until.TheVariants.{Covers, Never}
 use Rattle.expander.specs.Expands.{Columns, room, ended_by, listed_by}
 use Rattle.runs.specs.Runs.{tick_on}
 use Rattle.builder.specs.declared.Size.{Size}
-use Rattle.builder.specs.declared.Listed.{Listed}
-use Rattle.builder.specs.Plan.{table_actions, table_domain, pairs, Plan, no_plan, one_tree, list_and_tree, plan_by, table_plan, size_of, listed_of}
+use Rattle.builder.specs.Plan.{table_actions, table_domain, pairs, Plan, no_plan, one_tree, list_and_tree, plan_by, table_plan, size_of}
 use Rattle.builder.specs.FinishLaws.{listed_entries, refused_tree}
 use Rattle.builder.specs.PlanLaws.{columns_few, whole_told}
 use Rattle.builder.specs.WorksLaws.{facts_few, within_facts, nothing_absent}
@@ -386,8 +386,8 @@ pub bad_recovered : (table tree : List ℕ) (entries n p : ℕ) → refused n p 
 unfolding recovered
 bad_recovered table tree entries n p q = rw (← q)
 
-pub recovery_kept : (table : List ℕ) → AreBytes table → (tree : List ℕ) (before after : Columns) (r : Listed)
-    → WritesBack (recovered table tree (room before false)) before after (listed_of r) → Recovers table tree before after r
+pub recovery_kept : (table : List ℕ) → AreBytes table → (tree : List ℕ) (before after : Columns) (r : (Result ℕ Refusal))
+    → WritesBack (recovered table tree (room before false)) before after (answer_of r) → Recovers table tree before after r
 recovery_kept table b tree before after r w =
     record {
       writes = w;

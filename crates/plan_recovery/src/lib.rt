@@ -4,19 +4,17 @@
 #![tactic(auto)]
 
 ghost use Rattle.std.specs.Prelude.{◌≡◌, false, []};
-ghost use Rattle.refusal.specs.Checked.{accepted, and_then};
+ghost use Rattle.refusal.specs.Checked.{accepted, and_then, answer_of};
 ghost use Rattle.table.specs.Table.{Table};
 ghost use Rattle.table.specs.Read.{headed};
 ghost use Rattle.expander.specs.Expands.{columns, room};
-ghost use Rattle.builder.specs.Plan.{listed_of};
 ghost use Rattle.tree_shows.specs.Shown.{sound_tree};
 ghost use Rattle.plan_recovery.specs.Recovery.{list_of, fitting, WritesBack};
 ghost use Rattle.plan_recovery.specs.Promise.{Recovers};
 
-use builder::Listed;
 use expander::Until;
-use refusal::Reason;
-use table::{Header, TableRead};
+use refusal::{Reason, Refusal};
+use table::Header;
 
 // The list of a sound tree. Its plan needs no more room than the entries that the tree shows, so a tree of another origin costs no more than that.
 fn recover_under(
@@ -27,20 +25,21 @@ fn recover_under(
     actions: &mut [u8],
     parents: &mut [u16],
     depths: &mut [u16],
-) -> Listed
+) -> Result<usize, Refusal>
     requires { accepted header ≡ headed (sound_tree table.now tree.now) }
     ensures { (t : Table) → accepted t ≡ sound_tree table.now tree.now → WritesBack
         (and_then (list_of t table.now tree.now) λ l. fitting
         (room (columns conditions.old [] actions.old parents.old depths.old) false) l)
         (columns conditions.old [] actions.old parents.old depths.old)
-        (columns conditions.new [] actions.new parents.new depths.new) (listed_of result) }
+        (columns conditions.new [] actions.new parents.new depths.new) (answer_of result) }
 {
-    let n = tree_shows::entries_shown(header.paired, tree.len());
-    if n == 0 {
-        return recovery_parts::refuse(Reason::OtherOrigin);
-    }
+    let Some(n) = tree_shows::entries_shown(header.paired, tree.len()) else {
+        return Err(Reason::OtherOrigin.at(0));
+    };
     let start = tree_shows::last_mask(tree, n);
     let mut planned_conditions = [0u64; expander::MAX_ENTRIES];
+    // The plan has no more room than this.
+    let planned_conditions = &mut planned_conditions[..n];
     // There are no second masks.
     let mut absences = [0u64; 1];
     let mut planned_actions = [0u8; expander::MAX_ENTRIES];
@@ -51,17 +50,17 @@ fn recover_under(
         table,
         header,
         Until::Covers(start),
-        &mut planned_conditions[..n],
+        planned_conditions,
         &mut absences,
         &mut planned_actions,
         &mut planned_parents,
         &mut planned_depths,
         &mut bytes,
     );
-    let written = recovery_parts::bytes_built(built);
+    let written = built.map_or(0, |size| size.bytes);
     let planned = tree_shows::is_same(&bytes[..written], tree);
     let room = expander::capacity_of(
-        0,
+        false,
         conditions.len(),
         0,
         actions.len(),
@@ -71,7 +70,7 @@ fn recover_under(
     let listed = recovery_parts::judge(planned, room < n, n);
     recovery_parts::copy_list(
         recovery_parts::entries_told(listed),
-        &planned_conditions,
+        planned_conditions,
         &planned_actions,
         &planned_parents,
         &planned_depths,
@@ -92,15 +91,11 @@ pub fn recover(
     actions: &mut [u8],
     parents: &mut [u16],
     depths: &mut [u16],
-) -> Listed
+) -> Result<usize, Refusal>
     ensures { Recovers table.now tree.now
         (columns conditions.old [] actions.old parents.old depths.old)
         (columns conditions.new [] actions.new parents.new depths.new) result }
 {
-    match tree_shows::sound_tree(table, tree) {
-        TableRead::Refused(x) => Listed::Refused(x),
-        TableRead::Sound(header) => {
-            recover_under(table, header, tree, conditions, actions, parents, depths)
-        }
-    }
+    let header = tree_shows::sound_tree(table, tree)?;
+    recover_under(table, header, tree, conditions, actions, parents, depths)
 }

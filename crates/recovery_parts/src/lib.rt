@@ -1,62 +1,30 @@
 // What is told of a list that is recovered from a tree, and the copy of it (document 02, W7).
 #![tactic(auto)]
 
-ghost use Rattle.std.specs.Prelude.{◌≡◌, [], if◌then◌else◌};
-ghost use Rattle.refusal.specs.Numbers.{number_of};
+ghost use Rattle.std.specs.Prelude.{◌≡◌, []};
+ghost use Rattle.refusal.specs.Checked.{answer_of};
 ghost use Rattle.expander.specs.Expands.{columns};
-ghost use Rattle.builder.specs.Plan.{listed_of, built_of};
-ghost use Rattle.recovery_parts.specs.Parts.{bytes_of, judged_for, told_of, copied, Holds};
+ghost use Rattle.recovery_parts.specs.Parts.{judged_for, told_of, copied, Holds};
 
-use builder::{Built, Listed};
 use refusal::{Reason, Refusal};
 
-// How many bytes of a tree were written.
-pub fn bytes_built(built: Built) -> usize
-    ensures { result ≡ bytes_of (built_of built) }
+// Of n entries that a plan lists which writes the tree or not, in tables that have room for them or are full before. A plan that writes the tree is asked
+// for first, then room for its list.
+pub fn judge(planned: bool, full: bool, n: usize) -> Result<usize, Refusal>
+    ensures { answer_of result ≡ judged_for planned full n }
 {
-    match built {
-        Built::Whole(size) => size.bytes,
-        Built::Refused(_) => 0,
+    match (planned, full) {
+        (false, _) => Err(Reason::OtherOrigin.at(0)),
+        (true, true) => Err(Reason::ListFull.at(0)),
+        (true, false) => Ok(n),
     }
-}
-
-// A refusal that has no place.
-pub fn refuse(reason: Reason) -> Listed
-    ensures { result ≡ Listed.Refused (record { reason = reason; place = 0 }) }
-{
-    Listed::Refused(Refusal { reason, place: 0 })
-}
-
-// Why n entries are not given back: a plan that writes the tree is asked for first, then room for its list.
-fn why_none(planned: bool) -> Reason
-    ensures { number_of result ≡ (if planned then 10 else 20) }
-{
-    if planned {
-        return Reason::ListFull;
-    }
-    Reason::OtherOrigin
-}
-
-// Of n entries that a plan lists which writes the tree or not, in tables that have room for them or are full before.
-pub fn judge(planned: bool, full: bool, n: usize) -> Listed
-    ensures { listed_of result ≡ judged_for planned full n }
-{
-    if planned {
-        if !full {
-            return Listed::Entries(n);
-        }
-    }
-    refuse(why_none(planned))
 }
 
 // As many entries as are told.
-pub fn entries_told(listed: Listed) -> usize
-    ensures { result ≡ told_of (listed_of listed) }
+pub fn entries_told(listed: Result<usize, Refusal>) -> usize
+    ensures { result ≡ told_of (answer_of listed) }
 {
-    match listed {
-        Listed::Entries(n) => n,
-        Listed::Refused(_) => 0,
-    }
+    listed.unwrap_or(0)
 }
 
 // Writes the first n entries of some list tables to the fronts of others.
@@ -77,12 +45,8 @@ pub fn copy_list(
         ≡ copied n (columns from_conditions.now [] from_actions.now from_parents.now from_depths.now)
         (columns conditions.old [] actions.old parents.old depths.old) }
 {
-    let mut i: usize = 0;
-    while i < n {
-        conditions[i] = from_conditions[i];
-        actions[i] = from_actions[i];
-        parents[i] = from_parents[i];
-        depths[i] = from_depths[i];
-        i += 1;
-    }
+    conditions[..n].copy_from_slice(&from_conditions[..n]);
+    actions[..n].copy_from_slice(&from_actions[..n]);
+    parents[..n].copy_from_slice(&from_parents[..n]);
+    depths[..n].copy_from_slice(&from_depths[..n]);
 }

@@ -1,10 +1,9 @@
 -- One law for each way through the functions that tell what a tree shows.
 -- Assumes nothing.
-use Rattle.std.specs.Prelude.{ℕ, ◌+◌, ◌-◌, ◌≤◌, ◌≡◌, refl, Bool, true, false, List, leb, length}
+use Rattle.std.specs.Prelude.{ℕ, ◌+◌, ◌-◌, ◌≤◌, ◌≡◌, refl, true, false, List, leb, length}
 use Rattle.std.proofs.Math.Decide.{dec_le}
-use Rattle.std.proofs.Common.{arith, sym, T_not, le-leb}
+use Rattle.std.proofs.Common.{arith, sym, le-leb}
 use Rattle.std.proofs.lemmas.Bool.{lt-leb}
-use Rattle.base.specs.Bools.{holds, fails}
 use Rattle.masks.specs.Laws.{within_empty}
 use Rattle.refusal.specs.Checked.{Checked, accepted, refused, and_then}
 use Rattle.refusal.specs.CheckedLaws.{not_both}
@@ -13,7 +12,6 @@ use Rattle.numbers.specs.Numbers.{number_at}
 use Rattle.reading.specs.Reading.{state}
 use Rattle.table.specs.Table.{Table}
 use Rattle.table.specs.Read.{read_table}
-use Rattle.planning.specs.Columns.{max_entries}
 use Rattle.tree.specs.declared.Status.{Status}
 use Rattle.tree.specs.Tree.{Tree}
 use Rattle.tree.specs.ReadTree.{read_tree}
@@ -21,7 +19,7 @@ use Rattle.tree.specs.Tick.{tick_tree}
 use Rattle.tree.specs.TickBytes.{tick_checked, answered}
 use Rattle.tree.specs.TickBytesLaws.{state_checked}
 use Rattle.flat.specs.TreeBytes.{tree_size}
-use Rattle.tree_shows.specs.Shown.{sound_tree, Shows, last_mask}
+use Rattle.tree_shows.specs.Shown.{sound_tree, last_mask}
 
 -- ---- the table, and the tree under it
 
@@ -49,18 +47,6 @@ module _ (table tree : List ℕ) where
 
     pub tree_good : (s : Status) → accepted s ≡ ticked → accepted t ≡ sound_tree table tree
     tree_good s = by_tree (λ c d. accepted s ≡ c → accepted t ≡ d) (λ x q. refl) (λ m q r. absurd (not_both (sym r)))
-
--- ---- how many entries a tree shows
-
-module _ (size : ℕ) where
-  pub shows_pair : (paired : Bool) → paired ≡ true → Shows paired size 0
-  shows_pair paired e = record { shown = λ h. absurd (omega arith); none = λ z p. absurd (T_not paired (fails paired p) (holds paired e)) }
-
-  pub shows_none : (paired : Bool) → ((k : ℕ) → 1 ≤ k → k ≤ max_entries false → tree_size false k ≡ size → ⊥) → Shows paired size 0
-  shows_none paired never = record { shown = λ h. absurd (omega arith); none = λ z p. never }
-
-  pub shows_some : (paired : Bool) (n : ℕ) → paired ≡ false → 1 ≤ n → n ≤ max_entries false → tree_size false n ≡ size → Shows paired size n
-  shows_some paired n p some few is = record { shown = λ h. (p, few, is); none = λ z. absurd (omega arith) }
 
 -- ---- where the last mask stands
 

@@ -1,6 +1,7 @@
 -- What the bytes of a tree show of the list that they were written from: document 02, W7.
 -- Definitions only.
-use Rattle.std.specs.Prelude.{ℕ, ◌+◌, ◌-◌, ◌≤◌, ◌≡◌, Bool, true, false, ◌&&◌, List, [], ◌∷◌, eqb, leb, length, if◌then◌else◌}
+use Rattle.std.specs.Prelude.{ℕ, ◌+◌, ◌-◌, ◌≤◌, ◌≡◌, Bool, false, List, leb, length, if◌then◌else◌, Option, Some, None}
+use Rattle.std.specs.Str.{bytes_eq}
 use Rattle.refusal.specs.Checked.{Checked, accepted, and_then}
 use Rattle.commands.specs.Commands.{MASK_WIDTH, JOB_LEAF_SIZE, END_OF_TREE_SIZE}
 use Rattle.numbers.specs.Numbers.{number_at}
@@ -14,10 +15,17 @@ use Rattle.flat.specs.TreeBytes.{tree_size}
 unfoldable pub sound_tree : (table tree : List ℕ) → Checked Table
 sound_tree table tree = and_then (read_table table) λ t. and_then (read_tree tree t.facts (length t.jobs)) λ x. accepted t
 
--- so many entries has a list whose tree takes so many bytes, if there are such lists and the table has no 0x21; else 0
-pub record Shows (paired : Bool) (size n : ℕ) : Type 0 where
-  pub shown : 1 ≤ n → (paired ≡ false) × (n ≤ max_entries false) × (tree_size false n ≡ size)
-  pub none : n ≡ 0 → paired ≡ false → (k : ℕ) → 1 ≤ k → k ≤ max_entries false → tree_size false k ≡ size → ⊥
+-- a list of n entries has a tree of so many bytes, and the table has no 0x21
+pub record HasEntries (paired : Bool) (size n : ℕ) : Type 0 where
+  pub no_pair : paired ≡ false
+  pub some : 1 ≤ n
+  pub few : n ≤ max_entries false
+  pub size_is : tree_size false n ≡ size
+
+-- so many entries has a list whose tree takes so many bytes, if there are such lists and the table has no 0x21
+abbrev pub Shows : (paired : Bool) (size : ℕ) → Option ℕ → Type 0
+Shows paired size (Some n) = HasEntries paired size n
+Shows paired size None = (n : ℕ) → HasEntries paired size n → ⊥
 
 -- where the mask of the last condition stands, in so many bytes of a list's tree: END comes after it, and before that the last entry's job, if it is not
 -- entry 0
@@ -27,8 +35,6 @@ last_mask_at size = size - (END_OF_TREE_SIZE + (if leb size (tree_size false 1) 
 unfoldable pub last_mask : List ℕ → ℕ
 last_mask tree = number_at MASK_WIDTH tree (last_mask_at (length tree))
 
-unfoldable pub same_bytes : List ℕ → List ℕ → Bool
-same_bytes [] [] = true
-same_bytes [] (y ∷ ys) = false
-same_bytes (x ∷ xs) [] = false
-same_bytes (x ∷ xs) (y ∷ ys) = eqb x y && same_bytes xs ys
+-- as std compares: as many bytes, each the same
+abbrev pub same_bytes : List ℕ → List ℕ → Bool
+same_bytes = bytes_eq

@@ -1,14 +1,15 @@
 -- What the bytes of a list's tree show: its last condition, and how many entries it has.
 -- Assumes nothing.
-use Rattle.std.specs.Prelude.{ℕ, zero, suc, ◌+◌, ◌^◌, ◌≤◌, ◌<◌, ◌≡◌, true, T, eqb, take, get_or}
-use Rattle.std.proofs.Common.{arith, sym, ◌∙◌, subst, eqb→eq, drop_at, take-suc, take_all, ext_get_or}
+use Rattle.std.specs.Prelude.{ℕ, zero, suc, ◌+◌, ◌^◌, ◌≤◌, ◌<◌, ◌≡◌, true, T, take, get_or}
+use Rattle.std.proofs.Common.{arith, sym, ◌∙◌, drop_at, take-suc, take_all}
 use Rattle.std.proofs.Math.Path.{refl, ap}
 use Rattle.std.proofs.Math.Bool.{false}
 use mathlib.Core.List.{List, [], ◌∷◌, ◌++◌, append_assoc}
-use Rattle.std.proofs.Math.Dec.{not_T, eqb_refl, leb}
+use Rattle.std.proofs.Math.Dec.{leb}
 use Rattle.std.proofs.Math.ListN.{length, length-append}
 use borrow.Author.Tests.{lt-leb}
-use Rattle.base.specs.Bools.{and_intro, and_left, and_right, is_true, is_false}
+use Rattle.std.proofs.lemmas.Slice.Eq.{bytes_eq-Decides}
+use Rattle.base.specs.Bools.{is_true, holds}
 use Rattle.commands.specs.Commands.{MASK_WIDTH}
 use Rattle.numbers.specs.Numbers.{to_bytes, number_at}
 use Rattle.numbers.specs.NumberLaws.{from_to, read_drop}
@@ -21,22 +22,10 @@ use Rattle.tree_shows.specs.Shown.{last_mask_at, last_mask, same_bytes}
 -- ---- the same bytes
 
 pub same_bytes_equal : (a b : List ℕ) → T (same_bytes a b) → a ≡ b
-unfolding same_bytes
-same_bytes_equal [] [] t = refl
-same_bytes_equal [] (y ∷ ys) t = absurd t
-same_bytes_equal (x ∷ xs) [] t = absurd t
-same_bytes_equal (x ∷ xs) (y ∷ ys) t = rw (eqb→eq x y (and_left (eqb x y) _ t), same_bytes_equal xs ys (and_right (eqb x y) _ t))
+same_bytes_equal a b t = (bytes_eq-Decides a b).0 (is_true (same_bytes a b) t)
 
 pub bytes_same : (a : List ℕ) → T (same_bytes a a)
-unfolding same_bytes
-bytes_same [] = tt
-bytes_same (x ∷ xs) = and_intro (eqb x x) _ (eqb_refl x) (bytes_same xs)
-
-pub same_not : (a b : List ℕ) → (a ≡ b → ⊥) → same_bytes a b ≡ false
-same_not a b n = is_false (same_bytes a b) (not_T (same_bytes a b) (λ t. n (same_bytes_equal a b t)))
-
-pub same_all : (a b : List ℕ) → length a ≡ length b → ((k : ℕ) → k < length a → get_or a k 0 ≡ get_or b k 0) → same_bytes a b ≡ true
-same_all a b size each = is_true (same_bytes a b) (subst (λ (c : List ℕ). T (same_bytes a c)) (ext_get_or 0 a b size each) (bytes_same a))
+bytes_same a = holds (same_bytes a a) ((bytes_eq-Decides a a).1 refl)
 
 -- ---- the last condition
 

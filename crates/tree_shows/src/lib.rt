@@ -2,13 +2,14 @@
 #![tactic(auto)]
 
 ghost use Rattle.std.specs.Prelude.{◌≡◌, false, ◌≤◌, length};
-ghost use Rattle.table.specs.Read.{headed, table_read_of};
+ghost use Rattle.table.specs.Read.{headed};
 ghost use Rattle.flat.specs.TreeBytes.{tree_size};
 ghost use Rattle.tree_shows.specs.Shown.{sound_tree, Shows, last_mask, same_bytes};
+ghost use Rattle.refusal.specs.Checked.{answer_of};
 
 use reading::Reading;
-use table::TableRead;
-use tick::Ticked;
+use refusal::Refusal;
+use table::Header;
 
 // The bytes of a list's tree: those of entry 0, with its FALLBACK and END, and those of each later entry.
 const FIRST_SIZE: usize = commands::FALLBACK_SIZE
@@ -23,39 +24,28 @@ const LATER_SIZE: usize = commands::SEQUENCE_SIZE
 pub const MAX_SIZE: usize = FIRST_SIZE + LATER_SIZE * (expander::MAX_ENTRIES - 1);
 
 // The table, and the tree under it. Any tick tells whether a tree is sound.
-pub fn sound_tree(table: &[u8], tree: &[u8]) -> TableRead
-    ensures { table_read_of result ≡ headed (sound_tree table.now tree.now) }
+pub fn sound_tree(table: &[u8], tree: &[u8]) -> Result<Header, Refusal>
+    ensures { answer_of result ≡ headed (sound_tree table.now tree.now) }
 {
-    match table::read_table(table) {
-        TableRead::Refused(x) => TableRead::Refused(x),
-        TableRead::Sound(header) => {
-            let nothing = Reading { held: 0, unread: 0 };
-            match tick::tick_checked(header, tree, 0, nothing) {
-                Ticked::Refused(x) => TableRead::Refused(x),
-                _ => TableRead::Sound(header),
-            }
-        }
-    }
+    let header = table::read_table(table)?;
+    let nothing = Reading { held: 0, unread: 0 };
+    tick::tick_checked(header, tree, 0, nothing)?;
+    Ok(header)
 }
 
-// How many entries a list has whose tree takes so many bytes. 0 where there is no such list, and for a table with a 0x21, whose trees are not taken.
-pub fn entries_shown(paired: bool, size: usize) -> usize
+// How many entries a list has whose tree takes so many bytes, if there is such a list and the table has no 0x21: the trees of a table with one are not
+// taken.
+pub fn entries_shown(paired: bool, size: usize) -> Option<usize>
     ensures { Shows paired size result }
 {
-    if paired {
-        return 0;
-    }
-    if size < FIRST_SIZE {
-        return 0;
-    }
-    if MAX_SIZE < size {
-        return 0;
+    if paired || size < FIRST_SIZE || MAX_SIZE < size {
+        return None;
     }
     let later = size - FIRST_SIZE;
     if later % LATER_SIZE != 0 {
-        return 0;
+        return None;
     }
-    later / LATER_SIZE + 1
+    Some(later / LATER_SIZE + 1)
 }
 
 // The mask of the last condition in the tree of n entries.
@@ -75,15 +65,5 @@ pub fn last_mask(tree: &[u8], n: usize) -> u64
 pub fn is_same(a: &[u8], b: &[u8]) -> bool
     ensures { result ≡ same_bytes a.now b.now }
 {
-    if a.len() != b.len() {
-        return false;
-    }
-    let mut i: usize = 0;
-    while i < a.len() {
-        if a[i] != b[i] {
-            return false;
-        }
-        i += 1;
-    }
-    true
+    a == b
 }
