@@ -2,10 +2,12 @@
 -- distance as far as it was found yet.
 -- Definitions only.
 use Rattle.std.specs.Prelude.{◌≡◌, List, ℕ, ◌≤◌, ◌<◌, T, length, get_or, if◌then◌else◌}
+use Rattle.conditions.specs.declared.Action.{Action}
 use Rattle.conditions.specs.declared.Condition.{Condition}
-use Rattle.conditions.specs.Condition.{satisfied, needed, applied, action_at}
+use Rattle.conditions.specs.Condition.{satisfied, needed, applied}
 use Rattle.planning.specs.Domain.{Domain}
 use Rattle.planning.specs.Facts.{Actions, unit_domain}
+use Rattle.expander.specs.Expands.{no_action}
 use Rattle.distance_steps.specs.Distance.{no_distance}
 
 -- the label of a state
@@ -16,25 +18,25 @@ label_of row s = get_or row s 0
 abbrev pub first_label : Condition → ℕ → ℕ
 first_label goal s = if satisfied goal s then 0 else no_distance
 
--- The rows have a mask for each action, there are n states, of which 15 facts give the most, and no action leads out of them.
-pub record MasksFit (needs absent adds deletes : List ℕ) (n : ℕ) : Type 0 where
-  pub as_absent : length absent ≡ length needs
-  pub as_adds : length adds ≡ length needs
-  pub as_deletes : length deletes ≡ length needs
-  pub few_actions : length needs ≤ 128
+-- the action leads out of none of the n states
+abbrev pub Stays : ℕ → Action → Type 0
+Stays n a = (s : ℕ) → s < n → T (satisfied (needed a) s) → applied a s < n
+
+-- There are n states, of which 15 facts give the most, and none of the actions leads out of them.
+pub record ActionsFit (actions : List Action) (n : ℕ) : Type 0 where
+  pub few_actions : length actions ≤ 128
   pub few_states : n ≤ 32768
-  pub stays : (a s : ℕ) → a < length needs → s < n → T (satisfied (needed (action_at needs absent adds deletes a)) s)
-      → applied (action_at needs absent adds deletes a) s < n
+  pub stays : (a : ℕ) → a < length actions → Stays n (get_or actions a no_action)
 
 -- where an action leads from a state: to the label of the state that it leaves, or nowhere if it is not applicable
-abbrev pub label_after : Actions → List ℕ → ℕ → ℕ → ℕ
-label_after A row s a = if satisfied (needed (A.action a)) s then label_of row (applied (A.action a) s) else no_distance
+abbrev pub label_after : Action → List ℕ → ℕ → ℕ
+label_after a row s = if satisfied (needed a) s then label_of row (applied a s) else no_distance
 
 -- the search for the least label came to action a: the least so far
 pub record LeastBelow (A : Actions) (row : List ℕ) (s a best : ℕ) : Type 0 where
   pub word : best ≤ no_distance
-  pub reached : best < no_distance → (k : ℕ) × (k < A.count) × (label_after A row s k ≡ best)
-  pub least : (k : ℕ) → k < a → best ≤ label_after A row s k
+  pub reached : best < no_distance → (k : ℕ) × (k < A.count) × (label_after (A.action k) row s ≡ best)
+  pub least : (k : ℕ) → k < a → best ≤ label_after (A.action k) row s
 
 module _ (A : Actions) (goal : Condition) where
   abbrev pub D : Domain ℕ Condition ℕ

@@ -2,12 +2,12 @@
 // states are made of (document 02, W13). A label is a distance as far as it was found yet. An action is document 01's job.
 #![tactic(auto)]
 
-ghost use Rattle.std.specs.Prelude.{◌≡◌, ◌<◌, length};
+ghost use Rattle.std.specs.Prelude.{◌≡◌, ◌≤◌, ◌<◌, length};
 ghost use Rattle.base.specs.Lists.{prefix};
 ghost use Rattle.conditions.specs.declared.Condition.{Condition};
 ghost use Rattle.conditions.specs.Condition.{plain};
-ghost use Rattle.expander.specs.Expands.{actions_of};
-ghost use Rattle.distance_steps.specs.Steps.{MasksFit, label_after, first_label, LeastAhead, NoneBelow};
+ghost use Rattle.expander.specs.Expands.{actions_in};
+ghost use Rattle.distance_steps.specs.Steps.{Stays, ActionsFit, label_after, first_label, LeastAhead, NoneBelow};
 
 use conditions::{Action, Condition};
 use reading::Reading;
@@ -32,32 +32,17 @@ fn first_label(goal: u64, s: usize) -> u16
 pub fn label_goal(goal: u64, row: &mut [u16])
     ensures { row.new ≡ prefix (first_label (plain goal)) (length row.old) }
 {
-    let mut s: usize = 0;
-    while s < row.len() {
-        row[s] = first_label(goal, s);
-        s += 1;
+    for (s, label) in row.iter_mut().enumerate() {
+        *label = first_label(goal, s);
     }
 }
 
 // The label of the state that an action leaves, or `NO_DISTANCE` where it is not applicable.
-fn label_after(
-    needs: &[u64],
-    absent: &[u64],
-    adds: &[u64],
-    deletes: &[u64],
-    row: &[u16],
-    s: usize,
-    a: usize,
-) -> u16
-    requires { MasksFit needs.now absent.now adds.now deletes.now (length row.now) × (s < length row.now) × (a < length needs.now) }
-    ensures { result ≡ label_after (actions_of needs.now absent.now adds.now deletes.now) row.now s a }
+#[tactic(auto, using(crate::specs::AheadLaws::leaves_inside, crate::specs::AheadLaws::label_applicable, crate::specs::AheadLaws::label_inapplicable))]
+fn label_after(action: Action, row: &[u16], s: usize) -> u16
+    requires { Stays (length row.now) action × (length row.now ≤ 32768) × (s < length row.now) }
+    ensures { result ≡ label_after action row.now s }
 {
-    let action = Action {
-        needs: needs[a],
-        absent: absent[a],
-        adds: adds[a],
-        deletes: deletes[a],
-    };
     let here = Reading {
         held: s as u64,
         unread: 0,
@@ -71,31 +56,21 @@ fn label_after(
 }
 
 // The least label that an action leads to. The search ends at `floor`, where no action leads to less.
-pub fn least_ahead(
-    needs: &[u64],
-    absent: &[u64],
-    adds: &[u64],
-    deletes: &[u64],
-    row: &[u16],
-    s: usize,
-    floor: u16,
-) -> u16
-    requires { MasksFit needs.now absent.now adds.now deletes.now (length row.now) × (s < length row.now) }
+pub fn least_ahead(actions: &[Action], row: &[u16], s: usize, floor: u16) -> u16
+    requires { ActionsFit actions.now (length row.now) × (s < length row.now) }
     ensures { (goal : Condition)
-        → NoneBelow (actions_of needs.now absent.now adds.now deletes.now) goal row.now s floor
-        → LeastAhead (actions_of needs.now absent.now adds.now deletes.now) goal row.now s result }
+        → NoneBelow (actions_in actions.now) goal row.now s floor
+        → LeastAhead (actions_in actions.now) goal row.now s result }
 {
     let mut best = NO_DISTANCE;
-    let mut a: usize = 0;
-    while a < needs.len() {
-        let label = label_after(needs, absent, adds, deletes, row, s, a);
+    for &action in actions {
+        let label = label_after(action, row, s);
         if label < best {
             if label <= floor {
                 return floor;
             }
             best = label;
         }
-        a += 1;
     }
     best
 }

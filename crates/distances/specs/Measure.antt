@@ -1,6 +1,6 @@
 -- The distances of all states of a table, and what stands in the lent row: document 02, W13.
 -- Definitions only; MeasureLaws.antt and AgreeLaws.antt have the laws.
-use Rattle.std.specs.Prelude.{ℕ, ◌<◌, ◌^◌, ◌≡◌, Bool, List, ◌↔◌, leb, eqb, length, get_or, if◌then◌else◌}
+use Rattle.std.specs.Prelude.{ℕ, ◌<◌, ◌^◌, ◌≡◌, Bool, List, ◌↔◌, leb, eqb, length, get_or, if◌then◌else◌, Err, Ok, Result}
 use Rattle.refusal.specs.Checked.{Checked, accepted, refused, refused_by, and_then}
 use Rattle.conditions.specs.declared.Condition.{Condition}
 use Rattle.table.specs.Table.{Table}
@@ -12,8 +12,6 @@ use Rattle.builder.specs.declared.Size.{Size}
 use Rattle.builder.specs.Plan.{table_domain}
 use Rattle.shift_planner.specs.Shift.{plan_shift}
 use Rattle.distance_steps.specs.Distance.{no_distance, Distance}
-use Rattle.distances.specs.declared.Measured.{Measured}
-use Rattle.distances.specs.declared.Measured.TheVariants as M
 
 -- ---- the answer
 
@@ -29,11 +27,6 @@ checked_row facts size = if leb facts most_facts then (if eqb size (2 ^ facts) t
 -- how many states have their distance in a row of this size
 abbrev pub measured : List ℕ → ℕ → Checked ℕ
 measured table size = and_then (read_table table) λ t. checked_row t.facts size
-
--- the answer of the code, in these terms
-abbrev pub measured_of : Measured → Checked ℕ
-measured_of (M.States n) = accepted n
-measured_of (M.Refused x) = refused_by x
 
 -- ---- the row
 

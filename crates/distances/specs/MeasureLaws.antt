@@ -1,4 +1,4 @@
--- The parts of the code: the rows of a table's jobs, and the answers.
+-- The parts of the code: the actions of a table, and the answers.
 -- Assumes nothing.
 use Rattle.std.specs.Prelude.{ℕ, ◌≤◌, ◌<◌, ◌^◌, ◌≡◌, Bool, List, map, leb, eqb, length, get_or, take, if◌then◌else◌}
 use Rattle.std.proofs.Common.{arith, sym, ap, ◌∙◌, true≢false, pow_mono}
@@ -6,88 +6,60 @@ use Rattle.std.proofs.Math.Path.{refl}
 use Rattle.std.proofs.Math.Bool.{true, false}
 use borrow.Author.Tests.{leb-true, eqb-true, le-leb, lt-leb, eq-eqb, ne_eqb}
 use Rattle.std.proofs.lemmas.List.{length-map}
+use Rattle.std.proofs.Math.ListN.{get_or-map}
 use Rattle.masks.specs.Laws.{within_lt, lt_within}
 use Rattle.refusal.specs.Checked.{Checked, accepted, refused}
 use Rattle.refusal.specs.CheckedLaws.{not_both, accepted_same}
 use Rattle.numbers.specs.Numbers.{AreBytes}
+use Rattle.conditions.specs.declared.Action.{Action}
 use Rattle.conditions.specs.Condition.{plain, applied}
 use Rattle.conditions.specs.ConditionLaws.{applied_within}
-use Rattle.job.specs.declared.Job.{Job}
-use Rattle.job.specs.Job.{action_of}
+use Rattle.job.specs.Job.{no_job, action_of}
 use Rattle.table.specs.declared.Header.{Header}
 use Rattle.table.specs.Table.{Table}
 use Rattle.table.specs.Read.{read_table, jobs_of, headed}
 use Rattle.table.proofs.RoundTripLaws.{read_sound}
-use Rattle.job_rows.specs.Rows.{loaded}
-use Rattle.job_rows.specs.RowLaws.{load_whole}
-use Rattle.planning.specs.Facts.{Actions}
 use Rattle.expander.specs.declared.Until.TheVariants.{Never}
-use Rattle.expander.specs.Expands.{actions_of}
+use Rattle.expander.specs.Expands.{actions_in}
 use Rattle.builder.specs.Plan.{table_actions, table_domain}
-use Rattle.builder.specs.RowLaws.{needs, adds, deletes, absents, rows_actions, header_count, same_header}
+use Rattle.builder.specs.RowLaws.{same_header, loaded_actions}
 use Rattle.builder.specs.WorksLaws.{within_facts, separate}
 use Rattle.shift_planner.specs.Shift.{plan_shift}
 use Rattle.shift_planner.specs.ShiftLaws.{shift_ended}
 use Rattle.distance_steps.specs.Distance.{Distance}
-use Rattle.distance_steps.specs.Steps.{MasksFit}
+use Rattle.distance_steps.specs.Steps.{ActionsFit}
 use Rattle.distance_sweeps.specs.Sweeps.{Distances}
 use Rattle.distances.specs.Measure.{most_facts, checked_row, measured, HoldsDistances, Measures}
 use Rattle.distances.specs.AgreeLaws.{distance_agrees}
 
--- ---- the rows of a table's jobs
+-- ---- the actions of a table
 
 module _ (s : List ℕ) (b : AreBytes s) (t : Table) (e : read_table s ≡ accepted t) where
-  masks_same : actions_of (needs t.jobs) (absents true t.jobs) (adds t.jobs) (deletes t.jobs) ≡ table_actions t
-  masks_same = rows_actions t true (λ q. absurd (true≢false q)) (read_sound s b t e).few
-
   -- no job leads out of the states
   stays : (a k : ℕ) → a < length t.jobs → k < 2 ^ t.facts → applied ((table_actions t).action a) k < 2 ^ t.facts
   stays a k h l =
       within_lt t.facts _ (applied_within t.facts ((table_actions t).action a) ((within_facts s b t e 0 Never).actions_within a h) k (lt_within t.facts k l))
 
-  masks_fit : t.facts ≤ most_facts → MasksFit (needs t.jobs) (absents true t.jobs) (adds t.jobs) (deletes t.jobs) (2 ^ t.facts)
-  masks_fit few =
-      let size : (field : Job → ℕ) → length (map field t.jobs) ≡ length t.jobs = λ field. length-map t.jobs field in
+  actions_fit : t.facts ≤ most_facts → ActionsFit (map action_of t.jobs) (2 ^ t.facts)
+  actions_fit few =
+      let size = length-map t.jobs action_of in
       record {
-        as_absent = size (λ j. (action_of j).absent) ∙ sym (size (λ j. (action_of j).needs));
-        as_adds = size (λ j. (action_of j).adds) ∙ sym (size (λ j. (action_of j).needs));
-        as_deletes = size (λ j. (action_of j).deletes) ∙ sym (size (λ j. (action_of j).needs));
-        few_actions = omega (arith, size (λ j. (action_of j).needs), (read_sound s b t e).few);
+        few_actions = omega (arith, size, (read_sound s b t e).few);
         few_states = pow_mono few;
-        stays = λ a k h l m. rw (ap (λ (A : Actions). applied (A.action a) k) masks_same) (stays a k (omega (arith, size (λ j. (action_of j).needs))) l);
+        stays = λ a h k l m. rw (get_or-map action_of t.jobs a no_job) (stays a k (omega (arith, size)) l);
       }
 
 module _ (s : List ℕ) (b : AreBytes s) (h : Header) (e : accepted h ≡ headed (read_table s)) (t : Table) (r : accepted t ≡ read_table s)
-    (needs₀ absent₀ adds₀ deletes₀ needs' absent' adds' deletes' : List ℕ)
-    (in_needs : needs' ≡ loaded (λ j. j.needs) (jobs_of (read_table s)) needs₀ h.jobs)
-    (in_absent : absent' ≡ loaded (λ j. j.absent) (jobs_of (read_table s)) absent₀ h.jobs)
-    (in_adds : adds' ≡ loaded (λ j. j.adds) (jobs_of (read_table s)) adds₀ h.jobs)
-    (in_deletes : deletes' ≡ loaded (λ j. j.deletes) (jobs_of (read_table s)) deletes₀ h.jobs) where
-  masks_are : (field : Job → ℕ) (row₀ row : List ℕ) → row ≡ loaded field (jobs_of (read_table s)) row₀ h.jobs → take h.jobs row ≡ map field t.jobs
-  masks_are field row₀ row q =
-      ap (take h.jobs) q ∙ load_whole field (jobs_of (read_table s)) row₀ h.jobs (header_count s b h e) ∙ ap (λ (c : Checked Table). map field (jobs_of c)) (sym r)
-
-  -- what is lent on holds the masks of the table's jobs
-  lent : (take h.jobs needs' ≡ needs t.jobs) × (take h.jobs absent' ≡ absents true t.jobs) × (take h.jobs adds' ≡ adds t.jobs)
-      × (take h.jobs deletes' ≡ deletes t.jobs)
-  lent = (
-    masks_are (λ j. j.needs) needs₀ needs' in_needs,
-    masks_are (λ j. j.absent) absent₀ absent' in_absent,
-    masks_are (λ j. j.adds) adds₀ adds' in_adds,
-    masks_are (λ j. j.deletes) deletes₀ deletes' in_deletes,
-  )
-
-  pub fits_table : h.facts ≤ most_facts → MasksFit (take h.jobs needs') (take h.jobs absent') (take h.jobs adds') (take h.jobs deletes') (2 ^ h.facts)
+    (actions : List Action) (loaded : actions ≡ map action_of (jobs_of (read_table s))) where
+  pub fits_table : h.facts ≤ most_facts → ActionsFit actions (2 ^ h.facts)
   fits_table few =
       let same = ap (λ (x : Header). x.facts) (sym (same_header s b h e t r)) in
-      rw (lent.0, lent.1, lent.2, lent.3, same) (masks_fit s b t (sym r) (omega (arith, same)))
+      rw (loaded, ← r, same) (actions_fit s b t (sym r) (omega (arith, same)))
 
-  pub distances_table : (before after : List ℕ)
-      → Distances (actions_of (take h.jobs needs') (take h.jobs absent') (take h.jobs adds') (take h.jobs deletes')) (plain h.goal) before after
-      → Distances (table_actions t) (plain t.goal) before after
+  pub distances_table : (before after : List ℕ) → Distances (actions_in actions) (plain h.goal) before after → Distances (table_actions t) (plain t.goal) before after
   distances_table before after d =
       let goal = ap (λ (x : Header). x.goal) (sym (same_header s b h e t r)) in
-      rw (lent.0, lent.1, lent.2, lent.3, masks_same s b t (sym r), goal) at d
+      rw (loaded_actions s b h e t r actions loaded, goal) at d
 
 -- ---- the checks
 

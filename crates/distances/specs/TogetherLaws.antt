@@ -1,20 +1,20 @@
 -- The contracts of `plan_shift` and of `measure` together: document 02, W13, "Where a whole-shift tree is built the two must agree", said of what stands in
 -- the lent tables. And there is one row that meets the contract.
 -- Assumes nothing.
-use Rattle.std.specs.Prelude.{ℕ, ◌<◌, ◌≡◌, List, map, length, get_or, drop}
+use Rattle.std.specs.Prelude.{ℕ, ◌<◌, ◌≡◌, List, map, length, get_or, drop, Result}
 use Rattle.std.proofs.Common.{arith, sym, ap, ◌∙◌, ext_get_or}
 use Rattle.std.proofs.lemmas.List.{length-map}
 use Rattle.std.proofs.Math.ListN.{get_or-append, get_or-map}
 use Rattle.base.specs.Lists.{get_d_inside}
-use Rattle.refusal.specs.Checked.{Checked, accepted}
+use Rattle.refusal.specs.declared.Refusal.{Refusal}
+use Rattle.refusal.specs.Checked.{Checked, accepted, answer_of}
 use Rattle.table.specs.Table.{Table}
 use Rattle.table.specs.Read.{read_table}
 use Rattle.planning.specs.Expansion.{root}
 use Rattle.planning.specs.Demand.{FirstIn}
 use Rattle.expander.specs.Expands.{Columns, room, over}
 use Rattle.builder.specs.declared.Size.{Size}
-use Rattle.builder.specs.declared.Built.{Built}
-use Rattle.builder.specs.Plan.{table_domain, built_of}
+use Rattle.builder.specs.Plan.{table_domain}
 use Rattle.shift_planner.specs.Shift.{plan_shift, PlansShift}
 use Rattle.distances.specs.Measure.{measured, Measures}
 use Rattle.distances.specs.MeasureLaws.{measured_whole}
@@ -29,7 +29,7 @@ over_at field l xs i d h =
 module _ (table : List ℕ) (t : Table) (read : read_table table ≡ accepted t) (row row' : List ℕ) (told : Checked ℕ) (M : Measures table row row' told)
     (n : ℕ) (states : measured table (length row) ≡ accepted n) where
   -- the number of a state is what the lent table of depths holds for the first entry that the state meets
-  pub lent_depth : (before after : Columns) (lent tree : List ℕ) (r : Built) → PlansShift table before after lent tree r → (p : Size) → built_of r ≡ accepted p
+  pub lent_depth : (before after : Columns) (lent tree : List ℕ) (r : (Result Size Refusal)) → PlansShift table before after lent tree r → (p : Size) → answer_of r ≡ accepted p
       → (s : ℕ) → s < n → (i : ℕ) → FirstIn (table_domain t) (plan_shift table (room before) (length lent)).list s i → get_or row' s 0 ≡ get_or after.depths i 0
   lent_depth before after lent tree r P p built s h i first =
       let l = (plan_shift table (room before) (length lent)).list in

@@ -5,7 +5,7 @@ use mathlib.Core.Path.{◌≡◌}
 use mathlib.Core.Bool.{true, false}
 use lib.ListN.{length}
 use Rattle.conditions.specs.Condition.{plain}
-use Rattle.expander.specs.Expands.{actions_of}
+use Rattle.expander.specs.Expands.{actions_in}
 use Rattle.distance_steps.specs.Distance.{no_distance}
 use Rattle.distance_steps.specs.Steps.{label_of}
 use Rattle.distance_sweeps.specs.Sweeps.{Level, ClosedAt}
@@ -13,10 +13,11 @@ use Rattle.distance_sweeps.proofs.measure_states.Given as goal
 
 abbrev pub invariant-loop-changed : goal.invariant-loop-changed
 invariant-loop-changed l =
-    ((length l.row ≡ length l.initial.row) × (l.done ≤ length l.row) × (l.changed ≡ true → l.done < length l.row))
+    (l.done ≤ length l.row)
+    × (l.changed ≡ true → l.done < length l.row)
     × ((s : ℕ) → label_of l.row s ≤ no_distance)
-    × Level (actions_of l.needs l.absent l.adds l.deletes) (plain l.goal) l.done l.row
-    × (l.changed ≡ false → (s : ℕ) → s < length l.row → ClosedAt (actions_of l.needs l.absent l.adds l.deletes) (plain l.goal) l.row s)
+    × Level (actions_in l.actions) (plain l.goal) l.done l.row
+    × (l.changed ≡ false → (s : ℕ) → s < length l.row → ClosedAt (actions_in l.actions) (plain l.goal) l.row s)
 
 abbrev pub decreases-loop-changed : goal.decreases-loop-changed
 decreases-loop-changed l = length l.initial.row - l.done
