@@ -1,9 +1,9 @@
 -- The job card: document 01, "Job card", with stops 17 and 18 of "Stops, in checking order", whose place is 0. What its calls check first stands
 -- in `card_calls`.
 -- Definitions only.
-use Rattle.std.specs.Prelude.{ℕ, ◌+◌, ◌*◌, ◌≤◌, ◌≡◌, Bool, ◌||◌, eqb, ltb, ℤ, pos, ◌-ℤ◌, if◌then◌else◌}
+use Rattle.std.specs.Prelude.{ℕ, ◌+◌, ◌*◌, ◌≤◌, ◌≡◌, Bool, ◌||◌, eqb, ltb, ℤ, pos, ◌-ℤ◌, if◌then◌else◌, Result, Err}
 use Rattle.refusal.specs.declared.Refusal.{Refusal}
-use Rattle.refusal.specs.Checked.{Checked, accepted, refused, refused_by, and_then}
+use Rattle.refusal.specs.Checked.{Checked, accepted, refused, and_then, answer_of}
 use Rattle.reading.specs.declared.Reading.{Reading}
 use Rattle.conditions.specs.OnReading.{applicable, finished}
 use Rattle.job.specs.declared.Job.{Job}
@@ -11,8 +11,6 @@ use Rattle.job.specs.Job.{action_of}
 use Rattle.job.specs.Validation.{max_seconds}
 use Rattle.minutes.specs.Minutes.{minutes_of}
 use Rattle.card.specs.declared.Card.{Card}
-use Rattle.card.specs.declared.CardAnswer.{CardAnswer}
-use Rattle.card.specs.declared.CardAnswer.TheVariants.{Done, Refused}
 
 -- ---- a card and its masks
 
@@ -72,10 +70,6 @@ lateness_of c = minutes_of (pos c.taken -ℤ pos c.planned)
 
 -- ---- what a call on a card promises
 
-abbrev pub card_answer_of : CardAnswer → Checked (Unit {0})
-card_answer_of Done = accepted tt
-card_answer_of (Refused x) = refused_by x
-
 -- the answer that is due
 abbrev pub answer_due : Checked Card → Checked (Unit {0})
 answer_due due = and_then due λ c. accepted tt
@@ -86,7 +80,7 @@ card_after before (accepted after) = after
 card_after before (refused n p) = before
 
 -- of the card before and after it, and of its answer; `due` is the definition's
-pub record Updated (due : Checked Card) (before after : Card) (answer : CardAnswer) : Type 0 where
-  pub answers : card_answer_of answer ≡ answer_due due
+pub record Updated (due : Checked Card) (before after : Card) (answer : Result (Unit {0}) Refusal) : Type 0 where
+  pub answers : answer_of answer ≡ answer_due due
   pub leaves : after ≡ card_after before due
-  pub keeps : (x : Refusal) → answer ≡ Refused x → after ≡ before
+  pub keeps : (x : Refusal) → answer ≡ Err x → after ≡ before

@@ -27,17 +27,11 @@ pub struct Card {
     pub planned: u32,
 }
 
-#[derive(Clone, Copy)]
-pub enum CardAnswer {
-    Done,
-    Refused(Refusal),
-}
-
 // A card after a call, and the call's answer.
 #[derive(Clone, Copy)]
 pub struct CardStep {
     pub card: Card,
-    pub answer: CardAnswer,
+    pub answer: Result<(), Refusal>,
 }
 
 pub fn masks_of(card: Card) -> Reading
@@ -67,84 +61,64 @@ pub fn with_masks(card: Card, reading: Reading) -> Card
     Card {
         held: reading.held,
         unread: reading.unread,
-        reports: card.reports,
-        taken: card.taken,
-        planned: card.planned,
+        ..card
     }
 }
 
 pub fn accept(card: Card) -> CardStep
-    ensures { result ≡ record { card = card; answer = CardAnswer.Done } }
+    ensures { result ≡ record { card = card; answer = Ok tt } }
 {
     CardStep {
         card,
-        answer: CardAnswer::Done,
+        answer: Ok(()),
     }
 }
 
 // A refused call leaves the card as it was.
 pub fn refuse(card: Card, refusal: Refusal) -> CardStep
-    ensures { result ≡ record { card = card; answer = CardAnswer.Refused refusal } }
+    ensures { result ≡ record { card = card; answer = Err refusal } }
 {
-    let answer = CardAnswer::Refused(refusal);
+    let answer = Err(refusal);
     CardStep { card, answer }
 }
 
 // Can the card take no further report?
+#[tactic(auto, unfolding(crate::specs::Card::exhausted))]
 fn is_exhausted(card: Card) -> bool
     ensures { result ≡ exhausted card }
 {
-    let reports = card.reports;
-    if reports == MAX_REPORTS {
-        return true;
-    }
-    if card.taken > MAX_TAKEN * reports as u32 {
-        return true;
-    }
-    card.planned > MAX_LISTED * reports as u32
+    let reports = card.reports as u32;
+    card.reports == MAX_REPORTS
+        || card.taken > MAX_TAKEN * reports
+        || card.planned > MAX_LISTED * reports
 }
 
 // The card with one more report. Where it is not exhausted, the count and both sums have room for it.
+#[tactic(auto, using(crate::specs::CardLaws::room), unfolding(crate::specs::Card::with_report))]
 fn with_report(card: Card, job: Job, taken: u16) -> Card
     requires { exhausted card ≡ false }
     ensures { result ≡ with_report job taken card }
 {
     let masks = conditions::finish(job::action_of(job), masks_of(card));
-    let reported = taken as u32;
-    let listed = job.seconds as u32;
-    let reports = card.reports + 1;
-    let taken = card.taken + reported;
-    let planned = card.planned + listed;
     Card {
         held: masks.held,
         unread: masks.unread,
-        reports,
-        taken,
-        planned,
+        reports: card.reports + 1,
+        taken: card.taken + taken as u32,
+        planned: card.planned + job.seconds as u32,
     }
 }
 
 // A report of a job of the table, on a card whose masks are sound.
+#[tactic(auto, using(crate::specs::CardLaws::updated_refused, crate::specs::CardLaws::updated_accepted), unfolding(crate::specs::Card::booked))]
 pub fn book(card: Card, job: Job, taken: u16) -> CardStep
     ensures { Updated (booked job taken card) card result.card result.answer }
 {
     if !conditions::is_applicable(job::action_of(job), masks_of(card)) {
-        return refuse(
-            card,
-            Refusal {
-                reason: Reason::NeedNotHeld,
-                place: 0,
-            },
-        );
+        return refuse(card, Reason::NeedNotHeld.at(0));
     }
     if is_exhausted(card) {
-        return refuse(
-            card,
-            Refusal {
-                reason: Reason::CardExhausted,
-                place: 0,
-            },
-        );
+        return refuse(card, Reason::CardExhausted.at(0));
     }
     accept(with_report(card, job, taken))
 }
@@ -156,6 +130,7 @@ fn difference(taken: u32, planned: u32) -> i64
 }
 
 // Document 01's lateness, in minutes: below zero where the jobs took less than was planned.
+#[tactic(auto, unfolding(crate::specs::Card::lateness_of))]
 pub fn lateness(card: Card) -> i64
     ensures { result ≡ lateness_of card }
 {

@@ -4,15 +4,17 @@
 #![tactic(auto)]
 
 ghost use Rattle.std.specs.Prelude.{◌≡◌};
-ghost use Rattle.table.specs.Read.{table_read_of, headed};
+ghost use Rattle.table.specs.Read.{headed};
 ghost use Rattle.tick.specs.Answers.{Answers};
 ghost use Rattle.card.specs.Card.{masks_of, Updated};
 ghost use Rattle.card_calls.specs.Calls.{table_for, opened, outside_read, reported};
+ghost use Rattle.refusal.specs.Checked.{answer_of};
 
 use card::{Card, CardStep};
-use reading::{Reading, ReadingChecked};
-use table::{JobRead, TableRead};
-use tick::Ticked;
+use reading::Reading;
+use refusal::Refusal;
+use table::Header;
+use tree::Status;
 
 // A report of a finished job: its number, and the seconds that it took.
 #[derive(Clone, Copy)]
@@ -22,18 +24,12 @@ pub struct JobReport {
 }
 
 // A table, and a reading under it, which is refused with the place.
-fn table_for(table: &[u8], place: usize, reading: Reading) -> TableRead
-    ensures { table_read_of result ≡ headed (table_for table.now place reading) }
+fn table_for(table: &[u8], place: usize, reading: Reading) -> Result<Header, Refusal>
+    ensures { answer_of result ≡ headed (table_for table.now place reading) }
 {
-    match table::read_table(table) {
-        TableRead::Refused(x) => TableRead::Refused(x),
-        TableRead::Sound(header) => {
-            match reading::check_reading(header.facts, place, reading) {
-                ReadingChecked::Refused(x) => TableRead::Refused(x),
-                ReadingChecked::Sound(_) => TableRead::Sound(header),
-            }
-        }
-    }
+    let header = table::read_table(table)?;
+    reading::check_reading(header.facts, place, reading)?;
+    Ok(header)
 }
 
 // A new card, whatever the old one had.
@@ -41,8 +37,8 @@ pub fn opened(card: Card, table: &[u8], reading: Reading) -> CardStep
     ensures { Updated (opened table.now reading) card result.card result.answer }
 {
     match table_for(table, 0, reading) {
-        TableRead::Refused(x) => card::refuse(card, x),
-        TableRead::Sound(_) => card::accept(card::new_card(reading)),
+        Err(x) => card::refuse(card, x),
+        Ok(_) => card::accept(card::new_card(reading)),
     }
 }
 
@@ -52,8 +48,8 @@ pub fn outside_read(card: Card, table: &[u8], reading: Reading) -> CardStep
 {
     let read = table_for(table, 0, reading);
     match read {
-        TableRead::Refused(x) => card::refuse(card, x),
-        TableRead::Sound(_) => card::accept(card::with_masks(card, reading)),
+        Err(x) => card::refuse(card, x),
+        Ok(_) => card::accept(card::with_masks(card, reading)),
     }
 }
 
@@ -63,16 +59,16 @@ pub fn reported(card: Card, table: &[u8], report: JobReport) -> CardStep
 {
     let masks = card::masks_of(card);
     match table_for(table, 0, masks) {
-        TableRead::Refused(x) => card::refuse(card, x),
-        TableRead::Sound(header) => match table::named_job(table, header, report.job, 0) {
-            JobRead::Refused(x) => card::refuse(card, x),
-            JobRead::Named(job) => card::book(card, job, report.taken),
+        Err(x) => card::refuse(card, x),
+        Ok(header) => match table::named_job(table, header, report.job, 0) {
+            Err(x) => card::refuse(card, x),
+            Ok(job) => card::book(card, job, report.taken),
         },
     }
 }
 
 // A tick on the card's masks: they are judged by 8, and the counts not at all.
-pub fn tick_card(card: Card, table: &[u8], tree: &[u8]) -> Ticked
+pub fn tick_card(card: Card, table: &[u8], tree: &[u8]) -> Result<Status, Refusal>
     ensures { Answers table.now tree.now (masks_of card) result }
 {
     let masks = card::masks_of(card);

@@ -6,12 +6,12 @@ ghost use Rattle.std.specs.Prelude.{◌≡◌, nat_abs};
 ghost use Rattle.card.specs.Card.{Updated};
 ghost use Rattle.card_calls.specs.Calls.{opened, outside_read, reported};
 
-use card::{Card, CardAnswer, CardStep};
+use card::{Card, CardStep};
 use card_calls::JobReport;
 use reading::Reading;
 use refusal::Refusal;
 use std::io;
-use tick::Ticked;
+use tree::Status;
 
 // ---- the calls on a card that is lent: each lends its own
 
@@ -46,15 +46,11 @@ fn mask(rt: &impl Print, m: u64) -> io::Result<()> {
     print!(rt; " {m:02x}")
 }
 
-// A number without its sign. The least one of all has no opposite, so that it is taken from -1 first.
+// A number without its sign.
 fn magnitude(n: i64) -> u64
     ensures { result ≡ nat_abs n }
 {
-    if n < 0 {
-        let rest = -1 - n;
-        return rest as u64 + 1;
-    }
-    n as u64
+    n.unsigned_abs()
 }
 
 // The card: its masks, its reports, its taken and planned seconds, and its lateness.
@@ -74,9 +70,8 @@ fn show_card(rt: &impl Print, card: Card) -> io::Result<()> {
 }
 
 fn show_refusal(rt: &impl Print, x: Refusal) -> io::Result<()> {
-    let reason = x.reason;
     print!(rt; " refused")?;
-    number(rt, refusal::number(reason) as u64)?;
+    number(rt, u8::from(x.reason) as u64)?;
     number(rt, x.place as u64)
 }
 
@@ -85,10 +80,10 @@ fn show(rt: &impl Print, step: CardStep) -> io::Result<Card> {
     let card = step.card;
     let answer = step.answer;
     match answer {
-        CardAnswer::Done => {
+        Ok(()) => {
             print!(rt; " done")?;
         }
-        CardAnswer::Refused(x) => {
+        Err(x) => {
             show_refusal(rt, x)?;
         }
     }
@@ -96,26 +91,26 @@ fn show(rt: &impl Print, step: CardStep) -> io::Result<Card> {
     Ok(card)
 }
 
-fn show_ticked(rt: &impl Print, ticked: Ticked) -> io::Result<()> {
+fn show_ticked(rt: &impl Print, ticked: Result<Status, Refusal>) -> io::Result<()> {
     match ticked {
-        Ticked::Success => {
+        Ok(Status::Success) => {
             print!(rt; " success")?;
         }
-        Ticked::Failure => {
+        Ok(Status::Failure) => {
             print!(rt; " failure")?;
         }
-        Ticked::Running(job) => {
+        Ok(Status::Running(job)) => {
             print!(rt; " running")?;
             number(rt, job as u64)?;
         }
-        Ticked::Unsettled(facts) => {
+        Ok(Status::Unsettled(facts)) => {
             print!(rt; " unsettled")?;
             mask(rt, facts)?;
         }
-        Ticked::Waiting => {
+        Ok(Status::Waiting) => {
             print!(rt; " waiting")?;
         }
-        Ticked::Refused(x) => {
+        Err(x) => {
             show_refusal(rt, x)?;
         }
     }

@@ -5,11 +5,12 @@
 ghost use Rattle.card.specs.Card.{Updated};
 ghost use Rattle.card_calls.specs.Calls.{opened, outside_read, reported};
 
-use card::{Card, CardAnswer};
+use card::Card;
 use card_calls::JobReport;
 use reading::Reading;
+use refusal::Refusal;
 
-pub fn open(card: &mut Card, table: &[u8], reading: Reading) -> CardAnswer
+pub fn open(card: &mut Card, table: &[u8], reading: Reading) -> Result<(), Refusal>
     ensures { Updated (opened table.now reading) card.old card.new result }
 {
     let before = *card;
@@ -19,7 +20,7 @@ pub fn open(card: &mut Card, table: &[u8], reading: Reading) -> CardAnswer
     opened.answer
 }
 
-pub fn read_outside(card: &mut Card, table: &[u8], reading: Reading) -> CardAnswer
+pub fn read_outside(card: &mut Card, table: &[u8], reading: Reading) -> Result<(), Refusal>
     ensures { Updated (outside_read table.now reading card.old) card.old card.new result }
 {
     let before = *card;
@@ -29,7 +30,7 @@ pub fn read_outside(card: &mut Card, table: &[u8], reading: Reading) -> CardAnsw
     read.answer
 }
 
-pub fn report(card: &mut Card, table: &[u8], report: JobReport) -> CardAnswer
+pub fn report(card: &mut Card, table: &[u8], report: JobReport) -> Result<(), Refusal>
     ensures { Updated (reported table.now report card.old) card.old card.new result }
 {
     let before = *card;

@@ -1,14 +1,13 @@
 -- What is promised of a card that goes on under a new table: document 02, W14.
 -- Definitions only.
-use Rattle.std.specs.Prelude.{ℕ, ◌^◌, ◌<◌, ◌≡◌, ◌⊎◌, List, [], ◌∷◌}
+use Rattle.std.specs.Prelude.{ℕ, ◌^◌, ◌<◌, ◌≡◌, ◌⊎◌, List, [], ◌∷◌, Ok, Result}
+use Rattle.refusal.specs.declared.Refusal.{Refusal}
 use Rattle.refusal.specs.Checked.{Checked, accepted, refused, and_then}
 use Rattle.numbers.specs.Numbers.{AreBytes}
 use Rattle.reading.specs.declared.Reading.{Reading}
 use Rattle.tree.specs.Tick.{Verdict}
 use Rattle.tree.specs.TickBytes.{tick_bytes}
 use Rattle.card.specs.declared.Card.{Card}
-use Rattle.card.specs.declared.CardAnswer.{CardAnswer}
-use Rattle.card.specs.declared.CardAnswer.TheVariants.{Done}
 use Rattle.card.specs.Card.{masks_of, new_card, card_after, Updated}
 use Rattle.card_calls.specs.declared.JobReport.{JobReport}
 use Rattle.card_calls.specs.Calls.{opened, outside_read, reported}
@@ -64,6 +63,6 @@ pub record GoesOn (table : List ℕ) (c : Card) : Type 0 where
   pub alike : (calls : List Call) → Alike calls c (new_card (masks_of c))
 
 -- of the card before and after it is migrated, and of the answer
-pub record Migrates (old new map : List ℕ) (before after : Card) (answer : CardAnswer) : Type 0 where
+pub record Migrates (old new map : List ℕ) (before after : Card) (answer : (Result (Unit {0}) Refusal)) : Type 0 where
   pub updates : Updated (migrated old new map before) before after answer
-  pub goes_on : answer ≡ Done → GoesOn new after
+  pub goes_on : answer ≡ (Ok tt) → GoesOn new after

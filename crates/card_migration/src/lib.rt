@@ -3,30 +3,22 @@
 #![tactic(auto)]
 
 ghost use Rattle.std.specs.Prelude.{◌≡◌};
-ghost use Rattle.reading.specs.Reading.{reading_of};
 ghost use Rattle.card_migration.specs.Migration.{migrated_masks};
 ghost use Rattle.card_migration.specs.Promise.{Migrates};
+ghost use Rattle.refusal.specs.Checked.{answer_of};
 
 use card::{Card, CardStep};
-use reading::{Reading, ReadingChecked};
-use table::TableRead;
+use reading::Reading;
+use refusal::Refusal;
 
 // The masks of a card under the new table. Both tables are judged before the masks, and these under the old one.
-fn migrate_masks(masks: Reading, old: &[u8], new: &[u8], map: &[u8]) -> ReadingChecked
-    ensures { reading_of result ≡ migrated_masks old.now new.now map.now masks }
+fn migrate_masks(masks: Reading, old: &[u8], new: &[u8], map: &[u8]) -> Result<Reading, Refusal>
+    ensures { answer_of result ≡ migrated_masks old.now new.now map.now masks }
 {
-    match table::read_table(old) {
-        TableRead::Refused(x) => ReadingChecked::Refused(x),
-        TableRead::Sound(from) => match table::read_table(new) {
-            TableRead::Refused(x) => ReadingChecked::Refused(x),
-            TableRead::Sound(to) => match reading::check_reading(from.facts, 0, masks) {
-                ReadingChecked::Refused(x) => ReadingChecked::Refused(x),
-                ReadingChecked::Sound(sound) => fact_map::map_reading(
-                    from.facts, to.facts, map, sound,
-                ),
-            },
-        },
-    }
+    let from = table::read_table(old)?;
+    let to = table::read_table(new)?;
+    let sound = reading::check_reading(from.facts, 0, masks)?;
+    fact_map::map_reading(from.facts, to.facts, map, sound)
 }
 
 pub fn migrated(card: Card, old: &[u8], new: &[u8], map: &[u8]) -> CardStep
@@ -34,7 +26,7 @@ pub fn migrated(card: Card, old: &[u8], new: &[u8], map: &[u8]) -> CardStep
 {
     let masks = card::masks_of(card);
     match migrate_masks(masks, old, new, map) {
-        ReadingChecked::Refused(x) => card::refuse(card, x),
-        ReadingChecked::Sound(carried) => card::accept(card::with_masks(card, carried)),
+        Err(x) => card::refuse(card, x),
+        Ok(carried) => card::accept(card::with_masks(card, carried)),
     }
 }

@@ -4,9 +4,10 @@
 
 ghost use Rattle.card_migration.specs.Promise.{Migrates};
 
-use card::{Card, CardAnswer};
+use card::Card;
+use refusal::Refusal;
 
-pub fn migrate(card: &mut Card, old: &[u8], new: &[u8], map: &[u8]) -> CardAnswer
+pub fn migrate(card: &mut Card, old: &[u8], new: &[u8], map: &[u8]) -> Result<(), Refusal>
     ensures { Migrates old.now new.now map.now card.old card.new result }
 {
     let before = *card;
