@@ -1,11 +1,10 @@
 -- The checks, one element after the other.
 -- Assumes nothing.
-use Rattle.std.specs.Prelude.{ℕ, ◌+◌, ◌≤◌, ◌<◌, ◌≡◌, Bool, ◌&&◌, List, [], leb, ltb, if◌then◌else◌}
-use Rattle.std.proofs.Math.Decide.{dec_le}
-use Rattle.std.proofs.Common.{arith, sym, ap, ◌∙◌, subst}
+use Rattle.std.specs.Prelude.{ℕ, ◌+◌, ◌≤◌, ◌<◌, ◌≡◌, Bool, ◌&&◌, List, [], leb, if◌then◌else◌}
+use Rattle.std.proofs.Common.{sym, ap, ◌∙◌, below_more}
 use Rattle.std.proofs.Math.Path.{refl}
 use Rattle.std.proofs.Math.Bool.{true, false}
-use borrow.Author.Tests.{eq-eqb, ne_eqb, le-leb, lt-leb}
+use borrow.Author.Tests.{le-leb, lt-leb}
 use Rattle.base.specs.Lists.{length_prefix}
 use Rattle.refusal.specs.Checked.{accepted, refused, checked_each}
 use Rattle.refusal.specs.CheckedLaws.{each_passed, each_refused}
@@ -13,20 +12,11 @@ use Rattle.reading.specs.declared.Reading.{Reading}
 use Rattle.reading.specs.Reading.{checked_at}
 use Rattle.reading.specs.ReadingLaws.{checked_told}
 use Rattle.conditions.specs.declared.Condition.{Condition}
-use Rattle.conditions.specs.Condition.{condition_within}
 use Rattle.planning.specs.Expansion.{Entry}
 use Rattle.planning.specs.Columns.{max_entries, entry_at}
 use Rattle.flat.specs.TreeBytes.{tree_entries}
 use Rattle.batch_walk.specs.Batch.{reading_at, readings_of}
 use Rattle.batch_checks.specs.Checks.{checked_readings, entry_fits, checked_entry, checked_list}
-
--- what holds of the first n and of the next holds of one more
-one_more : (P : ℕ → Type 0) (n : ℕ) → ((i : ℕ) → i < n → P i) → P n → (i : ℕ) → i < n + 1 → P i
-one_more P n h last i l =
-    elim (dec_le n i) [
-      | yes k ↦ let same : n ≡ i = omega arith in subst P same last
-      | no k ↦ h i (omega arith)
-    ]
 
 -- ---- readings
 
@@ -37,7 +27,7 @@ module _ (facts : ℕ) (held unread : List ℕ) where
   -- a reading that is sound is given back as it is
   pub next_reading : (v : ℕ) (s : Reading) → ((i : ℕ) → i < v → ReadingPasses i) → accepted s ≡ checked_at facts v (reading_at held unread v)
       → (i : ℕ) → i < v + 1 → ReadingPasses i
-  next_reading v s h e = one_more ReadingPasses v h (sym e ∙ ap accepted (sym (checked_told facts (reading_at held unread v) v s (sym e)).1))
+  next_reading v s h e = below_more ReadingPasses v h (sym e ∙ ap accepted (sym (checked_told facts (reading_at held unread v) v s (sym e)).1))
 
   pub readings_passed : (n : ℕ) → ((i : ℕ) → i < n → ReadingPasses i) → accepted (readings_of held unread n) ≡ checked_readings facts (readings_of held unread n)
   readings_passed n h = sym (each_passed (checked_at facts) (reading_at held unread) (reading_at held unread) n h)
@@ -46,22 +36,6 @@ module _ (facts : ℕ) (held unread : List ℕ) where
       → refused number place ≡ checked_at facts v (reading_at held unread v) → refused number place ≡ checked_readings facts (readings_of held unread n)
   reading_refused n v number place l h e =
       sym (each_refused (checked_at facts) (reading_at held unread) (reading_at held unread) v number place h (sym e) n l)
-
--- ---- one entry
-
-module _ (facts jobs i : ℕ) (c : Condition) (job : ℕ) where
-  pub entry_wide : false ≡ condition_within facts c → false ≡ entry_fits facts jobs i c job
-  unfolding entry_fits
-  entry_wide e = rw (← e)
-
-  module _ (e : true ≡ condition_within facts c) where
-    pub entry_first : i ≡ 0 → true ≡ entry_fits facts jobs i c job
-    unfolding entry_fits
-    entry_first h = rw (← e, eq-eqb i 0 h)
-
-    pub entry_later : (i ≡ 0 → ⊥) → ltb job jobs ≡ entry_fits facts jobs i c job
-    unfolding entry_fits
-    entry_later h = rw (← e, ne_eqb i 0 h)
 
 -- ---- entries
 
@@ -74,9 +48,6 @@ module _ (facts jobs : ℕ) (conditions absences actions : List ℕ) where
 
   passes : (i : ℕ) → EntryPasses i → checked_entry facts jobs i (entry i) ≡ accepted (entry i)
   passes i e = rw e
-
-  pub next_entry : (i : ℕ) → ((j : ℕ) → j < i → EntryPasses j) → EntryPasses i → (j : ℕ) → j < i + 1 → EntryPasses j
-  next_entry i h e = one_more EntryPasses i h e
 
   abbrev list : ℕ → List (Entry Condition)
   list n = tree_entries conditions absences actions n

@@ -3,15 +3,13 @@
 -- after entry 0 with a job not in the table, is 15 with the entry as place."
 -- Definitions only.
 use Rattle.std.specs.Prelude.{ℕ, Bool, ◌&&◌, ◌||◌, List, eqb, leb, ltb, length, if◌then◌else◌}
-use Rattle.refusal.specs.Checked.{Checked, accepted, refused, refused_by, checked_each}
+use Rattle.refusal.specs.Checked.{Checked, accepted, refused, checked_each}
 use Rattle.reading.specs.declared.Reading.{Reading}
 use Rattle.reading.specs.Reading.{checked_at}
 use Rattle.conditions.specs.declared.Condition.{Condition}
 use Rattle.conditions.specs.Condition.{condition_within}
 use Rattle.planning.specs.Expansion.{Entry}
 use Rattle.planning.specs.Columns.{max_entries}
-use Rattle.batch_checks.specs.declared.BatchChecked.{BatchChecked}
-use Rattle.batch_checks.specs.declared.BatchChecked.TheVariants as B
 
 -- 8, with the index of the vehicle
 abbrev pub checked_readings : (facts : ℕ) → List Reading → Checked (List Reading)
@@ -29,8 +27,3 @@ checked_entry facts jobs i x = if entry_fits facts jobs i x.condition x.action t
 unfoldable pub checked_list : (paired : Bool) → (facts jobs : ℕ) → List (Entry Condition) → Checked (List (Entry Condition))
 checked_list paired facts jobs l =
     if leb 1 (length l) && leb (length l) (max_entries paired) then checked_each (checked_entry facts jobs) 0 l else refused 13 0
-
--- the answer of the code, of something that is given back as it is where it passes
-abbrev pub batch_checked_of : {A : Type 0} → A → BatchChecked → Checked A
-batch_checked_of a B.Sound = accepted a
-batch_checked_of a (B.Refused x) = refused_by x

@@ -1,7 +1,7 @@
 -- The tick of a row of vehicles on a lent list, from bytes, and what it leaves in the lent rows: document 02, W4, "A yard of vehicles in one walk".
 -- Definitions only.
 use Rattle.std.specs.Prelude.{ℕ, min, ◌<◌, ◌≡◌, Bool, true, false, List, [], map, length, get_or, if◌then◌else◌}
-use Rattle.refusal.specs.Checked.{Checked, accepted, refused, refused_by, and_then, checked_each}
+use Rattle.refusal.specs.Checked.{Checked, accepted, refused, and_then, checked_each}
 use Rattle.reading.specs.declared.Reading.{Reading}
 use Rattle.conditions.specs.declared.Condition.{Condition}
 use Rattle.table.specs.declared.Header.{Header}
@@ -16,8 +16,6 @@ use Rattle.flat.specs.TreeBytes.{everyone, tree_bytes, tree_entries}
 use Rattle.flat.specs.FlatTree.{tree_of}
 use Rattle.batch_walk.specs.Batch.{reading_at, readings_of, AnswerRows, answering, entries_read}
 use Rattle.batch_checks.specs.Checks.{checked_readings, checked_list}
-use Rattle.batch_tick.specs.declared.BatchTicked.{BatchTicked}
-use Rattle.batch_tick.specs.declared.BatchTicked.TheVariants as B
 
 -- ---- what is lent
 
@@ -78,10 +76,6 @@ batch_under header l rs =
     accepted (record { statuses = map (λ r. (tick_tree r (tree_of everyone header.paired l)).answer) rs; read = entries_read l rs })
 
 -- ---- what the call answers, and leaves in the lent rows
-
-abbrev pub batch_ticked_of : BatchTicked → Checked ℕ
-batch_ticked_of (B.Ticked read) = accepted read
-batch_ticked_of (B.Refused x) = refused_by x
 
 -- the answers are written; "Every other refused call .. writes to nothing that is lent"
 abbrev pub left_by : Checked BatchAnswer → AnswerRows → AnswerRows

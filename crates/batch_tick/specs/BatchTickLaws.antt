@@ -1,6 +1,6 @@
 -- A batch from bytes is the batch under the table that was read: each tick of it is accepted, with the answer of the tree.
 -- Assumes nothing.
-use Rattle.std.specs.Prelude.{ℕ, suc, min, ◌+◌, ◌≤◌, ◌<◌, ◌≡◌, Bool, ◌&&◌, ◌||◌, eqb, leb, length, get_or, take}
+use Rattle.std.specs.Prelude.{ℕ, suc, ◌+◌, ◌≤◌, ◌<◌, ◌≡◌, Bool, ◌&&◌, ◌||◌, eqb, leb, length, get_or}
 use Rattle.std.proofs.Common.{zero-add, ap, ◌∙◌, subst, leb→le, ne_eqb}
 use native.Mathlib.Omega.{arith}
 use Rattle.std.proofs.Math.Path.{refl, sym}
@@ -29,12 +29,10 @@ use Rattle.tree.specs.declared.Status.TheVariants.{Failure}
 use Rattle.tree.specs.Tick.{tick_tree}
 use Rattle.tree.specs.TickBytes.{tick_bytes, answered}
 use Rattle.tree.specs.TickBytesLaws.{settled_bytes}
-use Rattle.flat.specs.TreeBytes.{everyone, tree_entries}
+use Rattle.flat.specs.TreeBytes.{everyone}
 use Rattle.flat.specs.FlatTree.{tree_of, Each, Fits}
 use Rattle.flat.specs.FlatTreeLaws.{each_by_place, later_by_place}
 use Rattle.flat.specs.ReadBackLaws.{tick_read}
-use Rattle.expander.specs.Expands.{if_paired}
-use Rattle.expander.specs.ExpandsLaws.{cut_paired}
 use Rattle.batch_walk.specs.Batch.{reading_at, readings_of, AnswerRows, entries_read, Walks}
 use Rattle.batch_checks.specs.Checks.{checked_readings, entry_fits, checked_entry, checked_list}
 use Rattle.batch_tick.specs.BatchTick.{entries_lent, list_lent, vehicles_due, Lent, lent_to, tree_of_lent, BatchAnswer, checked_batch, batch_ticked, batch_under, WritesAnswers, SingleTick, TicksVehicles}
@@ -42,14 +40,6 @@ use Rattle.batch_tick.specs.BatchTick.{entries_lent, list_lent, vehicles_due, Le
 -- ---- lengths
 
 module _ (conditions absences actions : ℕ) (paired : Bool) where
-  pub entries_plain : paired ≡ false → min conditions actions ≡ entries_lent paired conditions absences actions
-  unfolding entries_lent
-  entries_plain e = rw e
-
-  pub entries_paired : paired ≡ true → min (min conditions actions) absences ≡ entries_lent paired conditions absences actions
-  unfolding entries_lent
-  entries_paired e = rw e
-
   pub entries_few : entries_lent paired conditions absences actions ≤ actions
   unfolding entries_lent
   entries_few = by_kind paired
@@ -59,19 +49,10 @@ module _ (conditions absences actions : ℕ) (paired : Bool) where
       by_kind true = omega arith
 
 module _ (held unread statuses values : ℕ) where
-  pub due_is : {masks answers : ℕ} → masks ≡ min held unread → answers ≡ min statuses values → min masks answers ≡ vehicles_due held unread statuses values
-  unfolding vehicles_due
-  due_is e f = rw (e, f)
-
   pub due_few : (vehicles_due held unread statuses values ≤ held) × (vehicles_due held unread statuses values ≤ unread) × (vehicles_due held unread statuses values ≤ statuses)
       × (vehicles_due held unread statuses values ≤ values)
   unfolding vehicles_due
   due_few = (omega arith, omega arith, omega arith, omega arith)
-
--- the list, once its second masks are cut to those that count
-lent_is : (paired : Bool) (conditions absences actions : List ℕ) {n used : ℕ} → n ≡ entries_lent paired (length conditions) (length absences) (length actions)
-    → used ≡ if_paired paired (length absences) → tree_entries conditions (take used absences) actions n ≡ list_lent paired conditions absences actions
-lent_is paired conditions absences actions e f = rw (e, f, cut_paired paired absences)
 
 -- ---- a list that passed
 
@@ -119,28 +100,11 @@ module _ (paired : Bool) (facts jobs : ℕ) (l : List (Entry Condition)) (ys : L
 
 -- ---- under a table that was read
 
-module _ (header : Header) (l : List (Entry Condition)) (rs : List Reading) (t : AnswerRows) where
-  pub refused_reading : (n p : ℕ) → refused n p ≡ checked_readings header.facts rs → WritesAnswers (batch_under header l rs) t t (refused n p)
-  unfolding batch_under
-  refused_reading n p e = record { answer = rw (← e); written = rw (← e) }
-
-  module _ (e : accepted rs ≡ checked_readings header.facts rs) where
-    pub refused_list : (n p : ℕ) → refused n p ≡ checked_list header.paired header.facts header.jobs l → WritesAnswers (batch_under header l rs) t t (refused n p)
-    unfolding batch_under
-    refused_list n p f = record { answer = rw (← e, ← f); written = rw (← e, ← f) }
-
-    pub walked_answers : accepted l ≡ checked_list header.paired header.facts header.jobs l → {after : AnswerRows} {read : ℕ} → Walks l rs t after read
-        → WritesAnswers (batch_under header l rs) t after (accepted read)
-    unfolding batch_under
-    walked_answers f w = record { answer = rw (← e, ← f) (ap accepted w.count); written = rw (← e, ← f) (w.answers header.paired) }
-
--- by what is lent
-pub writes_lent : (header : Header) (conditions absences actions held unread : List ℕ) (vehicles_due : ℕ) {n used vehicles : ℕ} {before after : AnswerRows} {told : Checked ℕ}
-    → n ≡ entries_lent header.paired (length conditions) (length absences) (length actions) → used ≡ if_paired header.paired (length absences) → vehicles ≡ vehicles_due
-    → WritesAnswers (batch_under header (tree_entries conditions (take used absences) actions n) (readings_of held unread vehicles)) before after told
-    → WritesAnswers (batch_under header (list_lent header.paired conditions absences actions) (readings_of held unread vehicles_due)) before after told
-writes_lent header conditions absences actions held unread vehicles_due e f g writes =
-    rw (lent_is header.paired conditions absences actions e f, g) at writes
+-- once all is judged, the answers of the walk stand
+pub walked_answers : (header : Header) (l : List (Entry Condition)) (rs : List Reading) {before after : AnswerRows} {read : ℕ} → accepted rs ≡ checked_readings header.facts rs
+    → accepted l ≡ checked_list header.paired header.facts header.jobs l → Walks l rs before after read → WritesAnswers (batch_under header l rs) before after (accepted read)
+unfolding batch_under
+walked_answers header l rs e f w = record { answer = rw (← e, ← f) (ap accepted w.count); written = rw (← e, ← f) (w.answers header.paired) }
 
 -- ---- from bytes
 

@@ -2,130 +2,101 @@
 #![tactic(auto)]
 
 ghost use Rattle.std.specs.Prelude.{◌≡◌, ◌≤◌, length};
-ghost use Rattle.flat.specs.TreeBytes.{tree_entries};
-ghost use Rattle.batch_walk.specs.Batch.{readings_of, answer_rows};
-ghost use Rattle.batch_tick.specs.BatchTick.{entries_lent, list_lent, vehicles_due, batch_under, batch_ticked_of, WritesAnswers, TicksAll};
+ghost use Rattle.flat.specs.TreeBytes.{entries_in};
+ghost use Rattle.batch_walk.specs.Batch.{readings_in, answer_rows};
+ghost use Rattle.batch_tick.specs.BatchTick.{entries_lent, list_lent, vehicles_due, batch_under, WritesAnswers, TicksAll};
+ghost use Rattle.refusal.specs.Checked.{answer_of};
 
-use batch_checks::BatchChecked;
+use batch_walk::Readings;
+use flat::Entries;
 use refusal::Refusal;
-use table::{Header, TableRead};
-
-#[derive(Clone, Copy)]
-pub enum BatchTicked {
-    // So many entries were read.
-    Ticked(usize),
-    Refused(Refusal),
-}
+use table::Header;
 
 // How many entries are lent, by the lengths of their rows. Without a 0x21 the second masks do not count.
-fn entries_lent(paired: bool, conditions: usize, absences: usize, actions: usize) -> usize
-    ensures { result ≡ entries_lent paired conditions absences actions }
+#[tactic(auto, unfolding(crate::specs::BatchTick::entries_lent))]
+fn entries_lent(paired: bool, entries: Entries) -> usize
+    ensures { result ≡ entries_lent paired (length entries.entry.conditions.now)
+        (length entries.entry.absences.now) (length entries.entry.actions.now) }
 {
-    let shorter = numbers::lesser(conditions, actions);
+    let shorter = entries.conditions.len().min(entries.actions.len());
     if !paired {
         return shorter;
     }
-    numbers::lesser(shorter, absences)
+    shorter.min(entries.absences.len())
 }
 
 // How many vehicles are answered, by the lengths of their rows.
-fn vehicles_due(held: usize, unread: usize, statuses: usize, values: usize) -> usize
-    ensures { result ≡ vehicles_due held unread statuses values }
+#[tactic(auto, unfolding(crate::specs::BatchTick::vehicles_due))]
+fn vehicles_due(readings: Readings, statuses: usize, values: usize) -> usize
+    ensures { result ≡ vehicles_due (length readings.entry.held.now) (length readings.entry.unread.now) statuses values }
 {
-    numbers::lesser(
-        numbers::lesser(held, unread),
-        numbers::lesser(statuses, values),
-    )
+    let read = readings.held.len().min(readings.unread.len());
+    read.min(statuses.min(values))
 }
 
 // So many vehicles on a list of so many entries, of a table that was read.
+#[tactic(auto, using(crate::specs::BatchTickLaws::list_some), unfolding(crate::specs::BatchTick::batch_under))]
 fn tick_vehicles(
     header: Header,
     n: usize,
-    conditions: &[u64],
-    absences: &[u64],
-    actions: &[u8],
+    entries: Entries,
     vehicles: usize,
-    held: &[u64],
-    unread: &[u64],
+    readings: Readings,
     statuses: &mut [u8],
     values: &mut [u64],
-) -> BatchTicked
-    requires { (n ≤ length actions.now) × (vehicles ≤ length held.now) × (vehicles ≤ length unread.now)
+) -> Result<usize, Refusal>
+    requires { (n ≤ length entries.actions.now)
+        × (vehicles ≤ length readings.held.now) × (vehicles ≤ length readings.unread.now)
         × (vehicles ≤ length statuses.old) × (vehicles ≤ length values.old) }
     ensures { WritesAnswers
-        (batch_under header (tree_entries conditions.now absences.now actions.now n)
-        (readings_of held.now unread.now vehicles))
-        (answer_rows statuses.old values.old) (answer_rows statuses.new values.new) (batch_ticked_of result) }
+        (batch_under header (entries_in entries.entry n) (readings_in readings.entry vehicles))
+        (answer_rows statuses.old values.old) (answer_rows statuses.new values.new) (answer_of result) }
 {
-    let facts = header.facts;
-    match batch_checks::check_readings(facts, vehicles, held, unread) {
-        BatchChecked::Refused(x) => BatchTicked::Refused(x),
-        BatchChecked::Sound => match batch_checks::check_list(
-            header, n, conditions, absences, actions,
-        ) {
-            BatchChecked::Refused(x) => BatchTicked::Refused(x),
-            BatchChecked::Sound => BatchTicked::Ticked(batch_walk::walk_all(
-                n, conditions, absences, actions, vehicles, held, unread, statuses, values,
-            )),
-        },
-    }
+    batch_checks::check_readings(header.facts, vehicles, readings)?;
+    batch_checks::check_list(header, n, entries)?;
+    Ok(batch_walk::walk_all(n, entries, vehicles, readings, statuses, values))
 }
 
 // As many vehicles and entries as the shortest of their rows has, of a table that was read.
+#[tactic(auto, using(crate::specs::BatchTickLaws::entries_few, crate::specs::BatchTickLaws::due_few))]
 fn tick_under(
     header: Header,
-    conditions: &[u64],
-    absences: &[u64],
-    actions: &[u8],
-    held: &[u64],
-    unread: &[u64],
+    entries: Entries,
+    readings: Readings,
     statuses: &mut [u8],
     values: &mut [u64],
-) -> BatchTicked
+) -> Result<usize, Refusal>
     ensures { WritesAnswers
-        (batch_under header (list_lent header.paired conditions.now absences.now actions.now)
-        (readings_of held.now unread.now
-        (vehicles_due (length held.now) (length unread.now) (length statuses.old) (length values.old))))
-        (answer_rows statuses.old values.old) (answer_rows statuses.new values.new) (batch_ticked_of result) }
+        (batch_under header
+        (list_lent header.paired entries.entry.conditions.now entries.entry.absences.now entries.entry.actions.now)
+        (readings_in readings.entry
+        (vehicles_due (length readings.entry.held.now) (length readings.entry.unread.now) (length statuses.old) (length values.old))))
+        (answer_rows statuses.old values.old) (answer_rows statuses.new values.new) (answer_of result) }
 {
     let paired = header.paired;
-    let n = entries_lent(paired, conditions.len(), absences.len(), actions.len());
-    let used = expander::if_paired(paired, absences.len());
-    let vehicles = vehicles_due(held.len(), unread.len(), statuses.len(), values.len());
-    tick_vehicles(
-        header,
-        n,
-        conditions,
-        &absences[..used],
-        actions,
-        vehicles,
-        held,
-        unread,
-        statuses,
-        values,
-    )
+    let n = entries_lent(paired, entries);
+    let used = expander::if_paired(paired, entries.absences.len());
+    let vehicles = vehicles_due(readings, statuses.len(), values.len());
+    let counted = Entries {
+        absences: &entries.absences[..used],
+        ..entries
+    };
+    tick_vehicles(header, n, counted, vehicles, readings, statuses, values)
 }
 
 // Ticks every vehicle of a row on one list: any table, any rows. `TicksAll` says what stands in the lent rows afterwards, and that each answer is what
-// a single tick gives on the list's tree.
+// a single tick gives on the list's tree. The answer is how many entries were read.
 pub fn tick_all(
     table: &[u8],
-    conditions: &[u64],
-    absences: &[u64],
-    actions: &[u8],
-    held: &[u64],
-    unread: &[u64],
+    entries: Entries,
+    readings: Readings,
     statuses: &mut [u8],
     values: &mut [u64],
-) -> BatchTicked
-    ensures { TicksAll table.now conditions.now absences.now actions.now held.now
-        unread.now (answer_rows statuses.old values.old) (answer_rows statuses.new values.new) (batch_ticked_of result) }
+) -> Result<usize, Refusal>
+    ensures { TicksAll table.now entries.entry.conditions.now
+        entries.entry.absences.now entries.entry.actions.now readings.entry.held.now
+        readings.entry.unread.now (answer_rows statuses.old values.old) (answer_rows statuses.new values.new) (answer_of result) }
 {
-    match table::read_table(table) {
-        TableRead::Refused(x) => BatchTicked::Refused(x),
-        TableRead::Sound(header) => tick_under(
-            header, conditions, absences, actions, held, unread, statuses, values,
-        ),
-    }
+    let header = table::read_table(table)?;
+    tick_under(header, entries, readings, statuses, values)
 }

@@ -12,6 +12,7 @@ use Rattle.tree.specs.Tick.{tick_tree}
 use Rattle.tree.specs.StatusNumbers.{status_number, status_value}
 use Rattle.flat.specs.TreeBytes.{everyone}
 use Rattle.flat.specs.FlatTree.{tree_of}
+use Rattle.batch_walk.specs.declared.Readings.{Readings}
 
 -- ---- vehicles: "rows of held and unread masks"
 
@@ -21,6 +22,10 @@ reading_at held unread v = record { held = get_or held v 0; unread = get_or unre
 -- the first n of them
 abbrev pub readings_of : (held unread : List ℕ) → ℕ → List Reading
 readings_of held unread n = prefix (reading_at held unread) n
+
+-- the same of rows as the code holds them
+abbrev pub readings_in : Readings → ℕ → List Reading
+readings_in lent n = readings_of lent.held.now lent.unread.now n
 
 -- ---- answers: a row of statuses, and one of the job or mask that comes with each
 

@@ -1,15 +1,13 @@
 -- The walk's steps, one vehicle and one entry after the other, come to the ticks of the list's tree and to the entries read.
 -- Assumes nothing.
 use Prim.Native.Nat.{ℕ, zero, suc, ◌+◌, ◌≤◌, ◌<◌}
-use Rattle.std.proofs.Math.Decide.{dec_le}
 use Rattle.std.proofs.Math.Numerals.{add-one}
-use Rattle.std.proofs.Common.{arith, ◌∙◌, eq-eqb, ne_eqb}
+use Rattle.std.proofs.Common.{arith, ◌∙◌}
 use Rattle.std.specs.Prelude.{◌≡◌, Bool, not, ◌&&◌, List, eqb, length, get_or, if◌then◌else◌}
 use Rattle.std.proofs.Math.Path.{refl, sym, ap, subst}
 use Rattle.std.proofs.Math.Bool.{true, false}
 use Rattle.std.proofs.lemmas.Bool.{false≢true}
 use Rattle.std.proofs.Math.Dec.{eqb→eq}
-use Rattle.std.proofs.lemmas.List.{set-get_or}
 use Rattle.base.specs.Lists.{sum, overlay_front, overlay_past, overlay_next, overlay_again, overlay_same, overlay_stands, sum_split, sum_stands}
 use Rattle.base.specs.Bools.{holds, and_left}
 use Rattle.masks.specs.Sets.{subset, union}
@@ -25,39 +23,9 @@ use Rattle.tree.specs.declared.Status.TheVariants.{Success, Failure, Running, Un
 use Rattle.batch_walk.specs.declared.Numbered.{Numbered}
 use Rattle.batch_walk.specs.Batch.{reading_at, AnswerRows}
 use Rattle.batch_walk.specs.Steps.{numbered, numbered_at, set_numbered, over_rows, met_at, is_going, asked, is_missed, one_if, stops, stepped, Asks}
-use Rattle.batch_walk.specs.Steps.{AsksAll, may_meet, NextAsked, after_entry, stops_at, next_status, is_failure, answer_after, WalkedRows, status_after, rows_after, going_after}
-
--- ---- what a met entry answers
-
-pub met_goal : (i job : ℕ) → i ≡ 0 → numbered Success ≡ numbered (met_at i job)
-met_goal i job e = rw e
-
-pub met_job : (i job : ℕ) → 1 ≤ i → numbered (Running job) ≡ numbered (met_at i job)
-met_job zero job h = absurd (omega arith)
-met_job (suc i) job h = refl
+use Rattle.batch_walk.specs.Steps.{AsksAll, may_meet, PassedOver, after_entry, stops_at, next_status, is_failure, answer_after, WalkedRows, status_after, rows_after, going_after}
 
 -- ---- one vehicle
-
--- an answer that stands is set again
-same_answer : (t : AnswerRows) (v : ℕ) → t ≡ set_numbered t v (numbered_at t v)
-same_answer t v = rw (set-get_or t.statuses v 0, set-get_or t.values v 0)
-
-module _ (c : Condition) (met : Numbered) (r : Reading) (t : AnswerRows) (v : ℕ) where
-  module _ (h : get_or t.statuses v 0 ≡ 1) where
-    e : is_going (numbered_at t v) ≡ true
-    e = eq-eqb (get_or t.statuses v 0) 1 h
-
-    pub asks_missed : evaluated r c ≡ Missed → Asks c met r v t t 0
-    unfolding stepped stops
-    asks_missed f = record { answer = rw (e, f) (same_answer t v); count = rw (e, f) }
-
-    pub asks_met : evaluated r c ≡ Met → Asks c met r v t (set_numbered t v met) 1
-    unfolding stepped stops
-    asks_met f = record { answer = rw (e, f); count = rw (e, f) }
-
-    pub asks_open : (mask : ℕ) → evaluated r c ≡ Open mask → Asks c met r v t (set_numbered t v (numbered (Unsettled mask))) 1
-    unfolding stepped stops
-    asks_open mask f = record { answer = rw (e, f); count = rw (e, f) }
 
 -- none stops twice
 pub stops_once : (c : Condition) (r : Reading) (a : Numbered) → stops c r a ≤ 1
@@ -103,27 +71,10 @@ module _ (c : Condition) (met : Numbered) (r : Reading) (a : Numbered) (h : may_
       by_going false = refl
 
 module _ (present : ℕ) (r : Reading) (status : ℕ) where
-  -- the two tests, one after the other
-  pub meets_stopped : (status ≡ 1 → ⊥) → false ≡ may_meet present r status
-  unfolding may_meet
-  meets_stopped h = rw (ne_eqb status 1 h)
-
-  pub meets_going : status ≡ 1 → subset present (union r.held r.unread) ≡ may_meet present r status
-  unfolding may_meet
-  meets_going h = rw (eq-eqb status 1 h)
-
   -- one that an entry may stop goes on
   pub meets_told : may_meet present r status ≡ true → status ≡ 1
   unfolding may_meet
   meets_told e = eqb→eq status 1 (and_left (eqb status 1) (subset present (union r.held r.unread)) (holds _ e))
-
--- one vehicle more is passed over
-pub passed_next : (P : ℕ → Type 0) (first v : ℕ) → ((i : ℕ) → first ≤ i → i < v → P i) → P v → (i : ℕ) → first ≤ i → i < v + 1 → P i
-passed_next P first v h last i a b =
-    elim (dec_le v i) [
-      | yes k ↦ let same : v ≡ i = omega arith in subst P same last
-      | no k ↦ h i a (omega arith)
-    ]
 
 -- ---- the vehicles one after the other
 
@@ -173,19 +124,18 @@ module _ (c : Condition) (met : Numbered) (held unread : List ℕ) (t : AnswerRo
         rw (add-one v, f, one)
 
   -- the next ones are passed over
-  module _ {now : AnswerRows} {v n next : ℕ} (e : now ≡ over_rows (after_entry c met held unread t) v t) (p : NextAsked c.present held unread now.statuses v n next) where
+  module _ {now : AnswerRows} {v next : ℕ} (e : now ≡ over_rows (after_entry c met held unread t) v t) (p : PassedOver c.present held unread now.statuses v next) where
     idle : (i : ℕ) → v ≤ i → i < next → may_meet c.present (reading_at held unread i) (get_or t.statuses i 0) ≡ false
     idle i h k =
         let same = ap (λ (s : AnswerRows). numbered_at s i) e ∙ rows_past (after_entry c met held unread t) t v i h in
-        subst (λ (x : Numbered). may_meet c.present (reading_at held unread i) x.status ≡ false) same (p.passed i h k)
+        subst (λ (x : Numbered). may_meet c.present (reading_at held unread i) x.status ≡ false) same (p i h k)
 
-    pub passed_rows : n ≤ length t.statuses → n ≤ length t.values → now ≡ over_rows (after_entry c met held unread t) next t
-    passed_rows h k =
-        e ∙ rows_stand (after_entry c met held unread t) t v next p.onward (omega (arith, p.inside)) (omega (arith, p.inside))
-        (λ i a b. idle_stepped c met (reading_at held unread i) (numbered_at t i) (idle i a b))
+    pub passed_rows : v ≤ next → next ≤ length t.statuses → next ≤ length t.values → now ≡ over_rows (after_entry c met held unread t) next t
+    passed_rows b h k =
+        e ∙ rows_stand (after_entry c met held unread t) t v next b h k (λ i a b. idle_stepped c met (reading_at held unread i) (numbered_at t i) (idle i a b))
 
-    pub passed_count : sum (stops_at c met held unread t) v ≡ sum (stops_at c met held unread t) next
-    passed_count = sum_stands (stops_at c met held unread t) v next p.onward (λ i a b. idle_stops c met (reading_at held unread i) (numbered_at t i) (idle i a b))
+    pub passed_count : v ≤ next → sum (stops_at c met held unread t) v ≡ sum (stops_at c met held unread t) next
+    passed_count b = sum_stands (stops_at c met held unread t) v next b (λ i a b. idle_stops c met (reading_at held unread i) (numbered_at t i) (idle i a b))
 
 -- ---- one entry
 
@@ -220,18 +170,10 @@ status_goes c r i job Failure = by_entry i (evaluated r c)
     by_entry i (Open mask) = refl
 
 module _ (w : WalkedRows) where
-  -- before the first entry every vehicle goes on; from there on it does not matter what the rows held
-  module _ (vehicles : ℕ) (t : AnswerRows) {start : AnswerRows} (e : start ≡ over_rows (λ v. numbered Failure) vehicles t) where
-    pub rows_start : start ≡ rows_after w 0 vehicles start
-    unfolding answer_after
-    rows_start = e ∙ sym (rows_again (λ v. numbered Failure) t (λ v. numbered Failure) vehicles) ∙ ap (over_rows (λ v. numbered Failure) vehicles) (sym e)
-
-    pub rows_none : start ≡ rows_after w 0 vehicles t
-    unfolding answer_after
-    rows_none = e
-
-    pub rows_from : {now : AnswerRows} (n : ℕ) → now ≡ rows_after w n vehicles start → now ≡ rows_after w n vehicles t
-    rows_from n f = f ∙ ap (rows_after w n vehicles) e ∙ rows_again (λ v. numbered (status_after w n v)) t (λ v. numbered Failure) vehicles
+  -- before the first entry every vehicle goes on
+  pub rows_none : (vehicles : ℕ) (t : AnswerRows) {start : AnswerRows} → start ≡ over_rows (λ v. numbered Failure) vehicles t → start ≡ rows_after w 0 vehicles t
+  unfolding answer_after
+  rows_none vehicles t e = e
 
   pub all_going : (vehicles : ℕ) → vehicles ≡ going_after w 0 vehicles
   unfolding answer_after

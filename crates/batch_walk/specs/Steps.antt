@@ -1,6 +1,6 @@
 -- The walk, entry by entry: what one entry changes in the answers so far, of which Failure says that the vehicle goes on.
 -- Definitions only.
-use Rattle.std.specs.Prelude.{ℕ, zero, suc, ◌≤◌, ◌<◌, ◌≡◌, Bool, true, false, not, ◌&&◌, List, eqb, get_or, set, if◌then◌else◌}
+use Rattle.std.specs.Prelude.{ℕ, zero, suc, ◌≤◌, ◌<◌, ◌≡◌, Bool, true, false, not, ◌&&◌, List, eqb, get_or, set, if◌then◌else◌, Option, Some, None}
 use Rattle.base.specs.Lists.{overlay, sum}
 use Rattle.masks.specs.Sets.{subset, union}
 use Rattle.reading.specs.declared.Reading.{Reading}
@@ -12,7 +12,9 @@ use Rattle.conditions.specs.OnReading.{evaluated}
 use Rattle.tree.specs.declared.Status.{Status}
 use Rattle.tree.specs.declared.Status.TheVariants.{Success, Failure, Running, Unsettled, Waiting}
 use Rattle.tree.specs.StatusNumbers.{status_number, status_value}
+use Rattle.flat.specs.declared.Entries.{Entries}
 use Rattle.batch_walk.specs.declared.Numbered.{Numbered}
+use Rattle.batch_walk.specs.declared.Readings.{Readings}
 use Rattle.batch_walk.specs.Batch.{reading_at, AnswerRows, answer_rows}
 
 -- ---- answers in numbers
@@ -80,12 +82,16 @@ module _ (c : Condition) where
 unfoldable pub may_meet : ℕ → Reading → ℕ → Bool
 may_meet present r status = eqb status (status_number Failure) && subset present (union r.held r.unread)
 
--- the next such vehicle, from one on, of the first n; n where there is none
-pub record NextAsked (present : ℕ) (held unread statuses : List ℕ) (first n next : ℕ) : Type 0 where
-  pub onward : first ≤ next
-  pub inside : next ≤ n
-  pub passed : (v : ℕ) → first ≤ v → v < next → may_meet present (reading_at held unread v) (get_or statuses v 0) ≡ false
-  pub found : next < n → may_meet present (reading_at held unread next) (get_or statuses next 0) ≡ true
+-- from one vehicle on, none is such up to another
+abbrev pub PassedOver : (present : ℕ) (held unread statuses : List ℕ) (first next : ℕ) → Type 0
+PassedOver present held unread statuses first next =
+    (v : ℕ) → first ≤ v → v < next → may_meet present (reading_at held unread v) (get_or statuses v 0) ≡ false
+
+-- the next such vehicle, from one on, of the first n
+abbrev pub NextAsked : (present : ℕ) (held unread statuses : List ℕ) (first n : ℕ) → Option ℕ → Type 0
+NextAsked present held unread statuses first n (Some v) =
+    (first ≤ v) × (v < n) × PassedOver present held unread statuses first v × (may_meet present (reading_at held unread v) (get_or statuses v 0) ≡ true)
+NextAsked present held unread statuses first n None = PassedOver present held unread statuses first n
 
 -- ---- what the walk keeps
 
@@ -134,8 +140,15 @@ pub record WalkedRows : Type 0 where
   pub held : List ℕ
   pub unread : List ℕ
 
-abbrev pub walked_rows : (conditions absences actions held unread : List ℕ) → WalkedRows
-walked_rows conditions absences actions held unread = record { conditions = conditions; absences = absences; actions = actions; held = held; unread = unread }
+abbrev pub walked_rows : Entries → Readings → WalkedRows
+walked_rows entries readings =
+    record {
+      conditions = entries.conditions.now;
+      absences = entries.absences.now;
+      actions = entries.actions.now;
+      held = readings.held.now;
+      unread = readings.unread.now;
+    }
 
 module _ (w : WalkedRows) where
   -- what the first n entries answer to vehicle v

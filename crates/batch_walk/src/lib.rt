@@ -6,12 +6,31 @@
 ghost use Rattle.std.specs.Prelude.{◌≡◌, ◌≤◌, ◌<◌, length, get_or};
 ghost use Rattle.tree.specs.declared.Status.TheVariants.{Failure};
 ghost use Rattle.tree.specs.StatusNumbers.{status_number};
-ghost use Rattle.flat.specs.TreeBytes.{tree_entries};
-ghost use Rattle.batch_walk.specs.Batch.{reading_at, readings_of, answer_rows, Walks};
+ghost use Rattle.flat.specs.TreeBytes.{entries_in};
+ghost use Rattle.batch_walk.specs.Batch.{reading_at, readings_in, answer_rows, Walks};
 ghost use Rattle.batch_walk.specs.Steps.{numbered, met_at, over_rows, Asks, AsksAll, may_meet, NextAsked};
 
 use conditions::{Condition, Evaluation};
+use flat::Entries;
 use reading::Reading;
+
+// The readings of a row of vehicles, lent as their held and their unread masks.
+#[derive(Clone, Copy)]
+pub struct Readings<'a> {
+    pub held: &'a [u64],
+    pub unread: &'a [u64],
+}
+
+impl Readings<'_> {
+    pub fn at(self, v: usize) -> Reading
+        requires { (v < length self.held.now) × (v < length self.unread.now) }
+        ensures { result ≡ reading_at self.entry.held.now self.entry.unread.now v }
+    {
+        let held = self.held[v];
+        let unread = self.unread[v];
+        Reading { held, unread }
+    }
+}
 
 // A status and the job or mask that comes with it, as they stand in the rows of answers.
 #[derive(Clone, Copy)]
@@ -28,10 +47,9 @@ const RUNNING: u8 = 2;
 
 const UNSETTLED: u8 = 3;
 
-// What a tick answers where the condition of an entry is met.
-fn met_at(actions: &[u8], entry: usize) -> Numbered
-    requires { entry < length actions.now }
-    ensures { result ≡ numbered (met_at entry (get_or actions.now entry 0)) }
+// What a tick answers where the condition of an entry with this job is met.
+fn met_at(entry: usize, job: u8) -> Numbered
+    ensures { result ≡ numbered (met_at entry job) }
 {
     if entry == 0 {
         return Numbered {
@@ -39,7 +57,6 @@ fn met_at(actions: &[u8], entry: usize) -> Numbered
             value: 0,
         };
     }
-    let job = actions[entry];
     Numbered {
         status: RUNNING,
         value: job as u64,
@@ -51,69 +68,57 @@ fn start_all(vehicles: usize, statuses: &mut [u8], values: &mut [u64])
     requires { (vehicles ≤ length statuses.old) × (vehicles ≤ length values.old) }
     ensures { answer_rows statuses.new values.new ≡ over_rows (λ v. numbered Failure) vehicles (answer_rows statuses.old values.old) }
 {
-    let mut v: usize = 0;
-    while v < vehicles {
-        statuses[v] = FAILURE;
-        values[v] = 0;
-        v += 1;
-    }
+    statuses[..vehicles].fill(FAILURE);
+    values[..vehicles].fill(0);
 }
 
 // Does a vehicle go on, and is it not read to lack a fact of an entry's first mask?
 #[tactic(auto, unfolding(crate::specs::Steps::may_meet))]
-fn may_meet(present: u64, v: usize, held: &[u64], unread: &[u64], statuses: &[u8]) -> bool
-    requires { (v < length held.now) × (v < length unread.now) × (v < length statuses.now) }
-    ensures { result ≡ may_meet present (reading_at held.now unread.now v) (get_or statuses.now v 0) }
+fn may_meet(present: u64, v: usize, readings: Readings, statuses: &[u8]) -> bool
+    requires { (v < length readings.held.now) × (v < length readings.unread.now) × (v < length statuses.now) }
+    ensures { result ≡ may_meet present (reading_at readings.entry.held.now readings.entry.unread.now v) (get_or statuses.now v 0) }
 {
     if statuses[v] != FAILURE {
         return false;
     }
-    masks::is_subset(present, masks::join(held[v], unread[v]))
+    let reading = readings.at(v);
+    masks::is_subset(present, masks::join(reading.held, reading.unread))
 }
 
-// The next such vehicle, from one on: most are passed over here.
+// The next such vehicle, from one on: most are passed over here, in a loop of its own.
+#[inline(never)]
 fn next_asked(
     present: u64,
     first: usize,
     vehicles: usize,
-    held: &[u64],
-    unread: &[u64],
+    readings: Readings,
     statuses: &[u8],
-) -> usize
-    requires { (first ≤ vehicles) × (vehicles ≤ length held.now) × (vehicles ≤ length unread.now) × (vehicles ≤ length statuses.now) }
-    ensures { NextAsked present held.now unread.now statuses.now first vehicles result }
+) -> Option<usize>
+    requires { (vehicles ≤ length readings.held.now) × (vehicles ≤ length readings.unread.now) × (vehicles ≤ length statuses.now) }
+    ensures { NextAsked present readings.entry.held.now readings.entry.unread.now statuses.now first vehicles result }
 {
-    let mut v = first;
-    while v < vehicles {
-        if may_meet(present, v, held, unread, statuses) {
-            return v;
+    for v in first..vehicles {
+        if may_meet(present, v, readings, statuses) {
+            return Some(v);
         }
-        v += 1;
     }
-    v
+    None
 }
 
 // Asks an entry of one vehicle that goes on. How many stop there: 1 or 0?
+#[tactic(auto, unfolding(crate::specs::Steps::stepped, crate::specs::Steps::stops))]
 fn ask(
     condition: Condition,
     met: Numbered,
     v: usize,
-    held: &[u64],
-    unread: &[u64],
+    reading: Reading,
     statuses: &mut [u8],
     values: &mut [u64],
 ) -> usize
-    requires { (v < length held.now) × (v < length unread.now) × (v < length statuses.old) × (v < length values.old)
-        × (get_or statuses.old v 0 ≡ status_number Failure) }
-    ensures { Asks condition met (reading_at held.now unread.now v) v
+    requires { (v < length statuses.old) × (v < length values.old) × (get_or statuses.old v 0 ≡ status_number Failure) }
+    ensures { Asks condition met reading v
         (answer_rows statuses.old values.old) (answer_rows statuses.new values.new) result }
 {
-    let own_held = held[v];
-    let own_unread = unread[v];
-    let reading = Reading {
-        held: own_held,
-        unread: own_unread,
-    };
     match conditions::evaluate(reading, condition) {
         Evaluation::Missed => 0,
         Evaluation::Met => {
@@ -134,21 +139,21 @@ fn ask_all(
     condition: Condition,
     met: Numbered,
     vehicles: usize,
-    held: &[u64],
-    unread: &[u64],
+    readings: Readings,
     statuses: &mut [u8],
     values: &mut [u64],
 ) -> usize
-    requires { (vehicles ≤ length held.now) × (vehicles ≤ length unread.now) × (vehicles ≤ length statuses.old) × (vehicles ≤ length values.old) }
-    ensures { AsksAll condition met held.now unread.now vehicles
+    requires { (vehicles ≤ length readings.held.now) × (vehicles ≤ length readings.unread.now)
+        × (vehicles ≤ length statuses.old) × (vehicles ≤ length values.old) }
+    ensures { AsksAll condition met readings.entry.held.now readings.entry.unread.now vehicles
         (answer_rows statuses.old values.old) (answer_rows statuses.new values.new) result }
 {
     let present = condition.present;
     let mut stopped: usize = 0;
-    let mut v = next_asked(present, 0, vehicles, held, unread, statuses);
-    while v < vehicles {
-        stopped += ask(condition, met, v, held, unread, statuses, values);
-        v = next_asked(present, v + 1, vehicles, held, unread, statuses);
+    let mut first: usize = 0;
+    while let Some(v) = next_asked(present, first, vehicles, readings, statuses) {
+        stopped += ask(condition, met, v, readings.at(v), statuses, values);
+        first = v + 1;
     }
     stopped
 }
@@ -156,19 +161,16 @@ fn ask_all(
 // Entries outside, vehicles inside, up to the entry after which no vehicle goes on. The answer is the number of entries that were fetched.
 pub fn walk_all(
     n: usize,
-    conditions: &[u64],
-    absences: &[u64],
-    actions: &[u8],
+    entries: Entries,
     vehicles: usize,
-    held: &[u64],
-    unread: &[u64],
+    readings: Readings,
     statuses: &mut [u8],
     values: &mut [u64],
 ) -> usize
-    requires { (1 ≤ n) × (n ≤ length actions.now) × (vehicles ≤ length held.now) × (vehicles ≤ length unread.now)
+    requires { (1 ≤ n) × (n ≤ length entries.actions.now)
+        × (vehicles ≤ length readings.held.now) × (vehicles ≤ length readings.unread.now)
         × (vehicles ≤ length statuses.old) × (vehicles ≤ length values.old) }
-    ensures { Walks (tree_entries conditions.now absences.now actions.now n)
-        (readings_of held.now unread.now vehicles)
+    ensures { Walks (entries_in entries.entry n) (readings_in readings.entry vehicles)
         (answer_rows statuses.old values.old) (answer_rows statuses.new values.new) result }
 {
     start_all(vehicles, statuses, values);
@@ -176,16 +178,13 @@ pub fn walk_all(
         return 0;
     }
     let mut going = vehicles;
-    let mut entry: usize = 0;
-    while entry < n {
-        let condition = conditions::condition_at(conditions, absences, entry);
-        let met = met_at(actions, entry);
-        going -= ask_all(condition, met, vehicles, held, unread, statuses, values);
-        let next = entry + 1;
+    for entry in 0..n {
+        let condition = entries.condition(entry);
+        let met = met_at(entry, entries.actions[entry]);
+        going -= ask_all(condition, met, vehicles, readings, statuses, values);
         if going == 0 {
-            return next;
+            return entry + 1;
         }
-        entry = next;
     }
     n
 }
