@@ -1,22 +1,16 @@
--- What one read makes of a file that is read into a buffer.
+-- What reading a file into a buffer leaves there.
 -- Definitions only.
-use Rattle.std.specs.Prelude.{◌≡◌, ◌≤◌, List, ℕ, zero, suc, ◌+◌, ◌-◌, min, ℤ, pos, negsuc, length, take}
-use Rattle.file_reading.specs.declared.Progress.{Progress}
-use Rattle.file_reading.specs.declared.Progress.TheVariants.{Ended, Going}
+use Rattle.std.specs.Prelude.{◌≡◌, ◌≤◌, ◌<◌, Option, List, ℕ, length, take}
+use Rattle.std.specs.Io.KnownBytes.{Consumes, IsAtEnd}
 
 -- so many bytes of a buffer are its front, and there are so many
 abbrev pub IsPrefixLen : ℕ → List ℕ → Type 0
 IsPrefixLen n xs = (n ≤ length xs) × (n ≡ length (take n xs))
 
--- `done` bytes of a buffer's `size` were read when the system answers a read. A negative answer: "A file that cannot be opened counts as empty",
--- and so does one of which a read fails (docs/DECISIONS.md, D30). 0: the file ends here. Else: so many bytes more, no more than there is room for.
-abbrev pub after_read : (done size : ℕ) → ℤ → Progress
-after_read done size (negsuc k) = Ended 0
-after_read done size (pos zero) = Ended done
-after_read done size (pos (suc k)) = Going (done + min (suc k) (size - done))
-
--- one read: the bytes that were read before it stay, and the rest is up to what the system answered
-pub record ReadMore (before after : List ℕ) (done : ℕ) (r : Progress) : Type 0 where
-  pub kept : take done after ≡ take done before
-  pub answer : ℤ
-  pub adds : r ≡ after_read done (length before) answer
+-- A buffer's first n bytes were read out of a file. What was to be read before and what is to be read after are known or not; where they are known,
+-- the n bytes are the next ones. They are fewer than the buffer has room for only where the file ends, so that a file of which a read fails has no
+-- such front: it counts as empty, as "A file that cannot be opened counts as empty" (docs/DECISIONS.md, D30).
+pub record ReadsFront (before after : Option (List ℕ)) (buf : List ℕ) (n : ℕ) : Type 0 where
+  pub front : IsPrefixLen n buf
+  pub bytes : Consumes before after (take n buf)
+  pub end : n < length buf → IsAtEnd after

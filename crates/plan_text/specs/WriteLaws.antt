@@ -6,16 +6,15 @@ use native.Mathlib.Omega.{arith}
 use Rattle.std.specs.Prelude.{◌≡◌, Bool, true, false, get_or, set, take, drop}
 use Rattle.std.proofs.Math.Path.{refl, ap}
 use mathlib.Core.List.{List, [], ◌∷◌, ◌++◌, append_assoc, append-nil}
-use Prim.Native.Nat.{ℕ, zero, suc, ◌+◌, ◌≤◌, ◌<◌}
+use Prim.Native.Nat.{ℕ, suc, ◌+◌, ◌≤◌, ◌<◌}
 use Rattle.std.proofs.Math.ListN.{length}
 use Rattle.std.proofs.lemmas.List.Edits.{sets}
 use Rattle.base.specs.Lists.{prefix, length_prefix}
-use Rattle.text_fields.specs.Fields.{decimal}
 use Rattle.text_fields.specs.Puts.{Put}
 use Rattle.text_fields.specs.PutLaws.{sets_out, put_then}
 use Rattle.conditions.specs.declared.Condition.{Condition}
 use Rattle.planning.specs.Expansion.{Entry}
-use Rattle.plan_text.specs.Text.{job_text, entry_text, entries_text}
+use Rattle.plan_text.specs.Text.{entry_text, entries_text}
 use Rattle.plan_text.specs.Writes.{Wrote, with_absences}
 
 sets_cons : (x : ℕ) (l : List ℕ) (at : ℕ) (xs : List ℕ) → sets (x ∷ l) (suc at) xs ≡ x ∷ sets l at xs
@@ -30,11 +29,6 @@ sets_front (x ∷ xs) (y ∷ l) = sets_cons x l 0 xs ∙ ap (λ (t : List ℕ). 
 
 pub put_wrote : {a b : List ℕ} {r : ℕ} {text : List ℕ} → Put a b 0 r text → Wrote text a b r
 put_wrote {a} {b} {r} {text} p = record { counted = omega (arith, p.ends); lent = p.stored ∙ sets_front text a }
-
--- an entry other than the first shows its job
-pub later_job : (entry job : ℕ) → (entry ≡ 0 → ⊥) → job_text entry job ≡ decimal job
-later_job zero job h = absurd (h refl)
-later_job (suc entry) job h = refl
 
 -- the second masks leave no more to show
 pub with_fewer : (paired : Bool) (entries absences : ℕ) → with_absences paired entries absences ≤ entries

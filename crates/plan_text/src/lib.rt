@@ -99,13 +99,11 @@ fn put_entries(
         (entries_of conditions.now absences.now actions.now parents.now depths.now n)) }
 {
     let mut next = at;
-    let mut i: usize = 0;
-    while i < n {
+    for i in 0..n {
         let condition = conditions::condition_at(conditions, absences, i);
         next = put_entry(
             out, next, paired, i, condition, actions[i], parents[i], depths[i],
         );
-        i += 1;
     }
     next
 }
@@ -115,9 +113,10 @@ fn with_absences(paired: bool, entries: usize, absences: usize) -> usize
     ensures { result ≡ with_absences paired entries absences }
 {
     if paired {
-        return text_fields::least(entries, absences);
+        entries.min(absences)
+    } else {
+        entries
     }
-    entries
 }
 
 // The text of a plan whose list stands in the columns: as many entries as asked for, where each column has so many. The second masks are those of
@@ -142,16 +141,11 @@ pub fn write_plan_text(
         jobs minutes)
         out.old out.new result }
 {
-    let listed = text_fields::least(
-        entries,
-        text_fields::least(
-            conditions.len(),
-            text_fields::least(
-                actions.len(),
-                text_fields::least(parents.len(), depths.len()),
-            ),
-        ),
-    );
+    let listed = entries
+        .min(conditions.len())
+        .min(actions.len())
+        .min(parents.len())
+        .min(depths.len());
     let n = with_absences(paired, listed, absences.len());
     let at = put_line(out, 0, b"plan", entries as u64, bytes as u64);
     let at = put_entries(

@@ -4,7 +4,7 @@
 use borrow.Author.Tests.{lt-ltb, le-leb, ne_eqb, eqb-true, eqb-false}
 use Rattle.std.proofs.Math.Decide.{dec_le}
 use Rattle.std.proofs.Common.{arith, sym, ◌∙◌, length-append, take-append-drop, take_all, length-take-le}
-use Rattle.std.specs.Prelude.{◌≡◌, Bool, eqb, leb, get_or, take, drop, if◌then◌else◌}
+use Rattle.std.specs.Prelude.{◌≡◌, Bool, eqb, leb, get_or, take, drop, if◌then◌else◌, None, Option, Some}
 use Rattle.std.proofs.Math.Path.{refl, ap}
 use Rattle.std.proofs.Math.Bool.{true, false}
 use mathlib.Core.List.{List, [], ◌∷◌, ◌++◌}
@@ -14,8 +14,6 @@ use Rattle.std.proofs.Math.Seq.{take-append-le}
 use Rattle.std.proofs.lemmas.List.{drop-append-le}
 use Rattle.refusal.specs.Checked.{Checked, accepted, refused, and_then}
 use Rattle.commands.specs.declared.Command.{Command}
-use Rattle.commands.specs.declared.Width.{Width}
-use Rattle.commands.specs.declared.Width.TheVariants.{Bytes, NoCommand}
 use Rattle.commands.specs.declared.Found.TheVariants.{Whole, Cut}
 use Rattle.commands.specs.Commands.{PAIRED_JOB, GOAL, OPERANDS_AT, ABSENT_AT, ADDS_AT, PAIRED_ADDS_AT, MASK_WIDTH, EFFECTS_WIDTH, commands, width_in, width_of, operands_at, command_at}
 use Rattle.numbers.specs.Numbers.{from_bytes, number_at}
@@ -34,11 +32,11 @@ use Rattle.program_text.specs.Files.{widest_in, widest, table_front, start_front
 
 -- ---- no command that may stand at a stage is wider than the widest
 
-fits_in : (stage : Stage) (cs : List Command) (b w : ℕ) → allowed stage b ≡ true → width_in cs b ≡ Bytes w → 1 + w ≤ widest_in stage cs
+fits_in : (stage : Stage) (cs : List Command) (b w : ℕ) → allowed stage b ≡ true → width_in cs b ≡ Some w → 1 + w ≤ widest_in stage cs
 fits_in stage [] b w a e = let z : ◌≡◌ {A = ℕ} 0 1 = cc in absurd (omega arith)
 fits_in stage (c ∷ cs) b w a e = by (eqb c.byte b) refl (fits_in stage cs b w a) e
   where
-    by : (x : Bool) → eqb c.byte b ≡ x → (width_in cs b ≡ Bytes w → 1 + w ≤ widest_in stage cs) → (if x then Bytes c.width else width_in cs b) ≡ Bytes w
+    by : (x : Bool) → eqb c.byte b ≡ x → (width_in cs b ≡ Some w → 1 + w ≤ widest_in stage cs) → (if x then Some c.width else width_in cs b) ≡ Some w
         → 1 + w ≤ widest_in stage (c ∷ cs)
     by true h rest q =
         let k : c.width ≡ w = cc in
@@ -46,7 +44,7 @@ fits_in stage (c ∷ cs) b w a e = by (eqb c.byte b) refl (fits_in stage cs b w 
         rw m (omega arith)
     by false h rest q = omega (arith, rest q)
 
-fits : (stage : Stage) (b w : ℕ) → allowed stage b ≡ true → width_of b ≡ Bytes w → 1 + w ≤ widest stage
+fits : (stage : Stage) (b w : ℕ) → allowed stage b ≡ true → width_of b ≡ Some w → 1 + w ≤ widest stage
 unfolding width_of
 fits stage b w a e = fits_in stage commands b w a e
 
@@ -73,9 +71,9 @@ module _ (p r : List ℕ) where
       rw (lt-ltb at (length (p ++ r)) (omega (arith, longer)), lt-ltb at (length p) (omega arith), get_or-append p r 0 at (omega arith))
       (by (width_of (get_or p at 0)) refl)
     where
-      by : (w : Width) → width_of (get_or p at 0) ≡ w → due_in stage (p ++ r) at (operands_at (p ++ r) at w) ≡ due_in stage p at (operands_at p at w)
-      by NoCommand e = refl
-      by (Bytes w) e = rw (get_or-append p r 0 at (omega arith)) (judged_same (allowed stage (get_or p at 0)) refl)
+      by : (w : (Option ℕ)) → width_of (get_or p at 0) ≡ w → due_in stage (p ++ r) at (operands_at (p ++ r) at w) ≡ due_in stage p at (operands_at p at w)
+      by None e = refl
+      by (Some w) e = rw (get_or-append p r 0 at (omega arith)) (judged_same (allowed stage (get_or p at 0)) refl)
         where
           other : (s : List ℕ) (x : Bool) → allowed stage (get_or p at 0) ≡ false
               → due_in stage s at (if x then Whole (get_or p at 0) (at + 1 + w) else Cut (get_or p at 0)) ≡ refused 2 at

@@ -2,14 +2,14 @@
 -- Assumes nothing.
 use Rattle.std.proofs.Common.{eqb-true, leb-true, arith, ◌∙◌}
 use Rattle.std.proofs.lemmas.Bool.{eqb-false}
-use Rattle.std.specs.Prelude.{◌≡◌, refl, Bool, ◌&&◌, List, ℕ, ◌≤◌, ◌<◌, leb, get_or, if◌then◌else◌}
+use Rattle.std.specs.Prelude.{◌≡◌, refl, Bool, ◌&&◌, List, ℕ, ◌≤◌, ◌<◌, leb, get_or, if◌then◌else◌, Err, Ok, Result}
 use Rattle.std.proofs.Math.Path.{sym, ap}
 use Rattle.std.proofs.Math.Bool.{true, false}
 use Rattle.std.proofs.Math.Dec.{eqb}
 use Rattle.std.proofs.Math.ListN.{length}
 use Rattle.base.specs.Lists.{get_d_prefix}
 use Rattle.masks.specs.Sets.{intersects, within}
-use Rattle.refusal.specs.Checked.{Checked, accepted, refused, and_then}
+use Rattle.refusal.specs.Checked.{Checked, accepted, refused, and_then, answer_of}
 use Rattle.refusal.specs.CheckedLaws.{not_both}
 use Rattle.reading.specs.declared.Reading.{Reading}
 use Rattle.reading.specs.Reading.{sound, checked_start}
@@ -30,16 +30,15 @@ use Rattle.expander.specs.declared.Until.{Until}
 use Rattle.expander.specs.declared.Until.TheVariants.{Covers}
 use Rattle.expander.specs.Expands.{Columns, capacity_of, room, held, written, ended_by}
 use Rattle.expander.specs.ExpandsLaws.{capacity_most, entry_of, held_length, over_long, over_at}
-use Rattle.planner.specs.declared.Planned.{Planned}
-use Rattle.planner.specs.declared.Planned.TheVariants as P
 use Rattle.planner.specs.declared.Summary.{Summary}
 use Rattle.planner.specs.Promise.{Plans}
 use Rattle.builder.specs.Plan.{Plan, no_plan, plan_by, table_plan, after_checks, table_actions, pairs}
 use Rattle.builder.specs.PlanLaws.{plan_list, plan_paired, whole_told}
 use Rattle.runs.specs.Runs.{tick_on}
-use Rattle.planner.specs.Plan.{summary_of, start_for, plan_for, planned_of}
+use Rattle.planner.specs.Plan.{summary_of, start_for, plan_for}
 use Rattle.program_text.specs.Shows.{Shows, PlannedFrom, shown_in, entries_in, planned_text}
 use Rattle.program_text.specs.Program.{answer_text, text_of, program_text, lent_entries, capacity, tree_room, start_size, start_of, files_plan}
+use Rattle.refusal.specs.declared.Refusal.{Refusal}
 
 -- ---- a start that no table takes
 
@@ -178,7 +177,7 @@ module _ (table start : List ℕ) (reading : Reading) {before : Columns} {lent :
   unfolding program_text
   text_is a e = ap (λ (x : Checked Summary). answer_text x made.list) e ∙ ap text_of made_is
 
-  module _ {after : Columns} {tree : List ℕ} (s : Summary) (p : Plans table reading before after lent tree (P.Built s)) where
+  module _ {after : Columns} {tree : List ℕ} (s : Summary) (p : Plans table reading before after lent tree (Ok s)) where
     answered : accepted s ≡ made.answer
     answered = p.writes.answer_and_tree.answer
 
@@ -216,15 +215,15 @@ module _ (table start : List ℕ) (reading : Reading) {before : Columns} {lent :
         by true = omega (arith, over_long made.list (λ x. x.condition.absent) before.absences)
         by false = refl
 
-    list_shown : planned_text (P.Built s) after ≡ answer_text (accepted s) made.list
+    list_shown : planned_text (Ok s) after ≡ answer_text (accepted s) made.list
     unfolding plan_text
     list_shown = rw (tables_are, all_shown, text_written s.paired made.list before)
 
   -- what a plan's answer tells of the text that is due
-  pub record Told (after : Columns) (r : Planned) : Type 0 where
+  pub record Told (after : Columns) (r : (Result Summary Refusal)) : Type 0 where
     pub entries : entries_in r ≤ lent_entries
     pub is_text : planned_text r after ≡ program_text table start
 
-  pub planned_told : {after : Columns} {tree : List ℕ} (r : Planned) → Plans table reading before after lent tree r → Told after r
-  planned_told (P.Refused x) p = record { entries = omega arith; is_text = text_is (planned_of (P.Refused x)) p.writes.answer_and_tree.answer }
-  planned_told (P.Built s) p = record { entries = few s p; is_text = list_shown s p ∙ text_is (accepted s) (answered s p) }
+  pub planned_told : {after : Columns} {tree : List ℕ} (r : (Result Summary Refusal)) → Plans table reading before after lent tree r → Told after r
+  planned_told (Err x) p = record { entries = omega arith; is_text = text_is (answer_of (Err x)) p.writes.answer_and_tree.answer }
+  planned_told (Ok s) p = record { entries = few s p; is_text = list_shown s p ∙ text_is (accepted s) (answered s p) }

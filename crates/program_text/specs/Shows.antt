@@ -1,17 +1,16 @@
 -- What the program lends to make its text, and what it finds there: the text that is due, whole, at the front of a lent slice.
 -- Definitions only.
-use Rattle.std.specs.Prelude.{◌≡◌, false, List, ℕ, ◌+◌, ◌*◌, ◌≤◌, length, take}
+use Rattle.std.specs.Prelude.{◌≡◌, false, List, ℕ, ◌+◌, ◌*◌, ◌≤◌, length, take, Err, Ok, Result}
 use Rattle.refusal.specs.Numbers.{number_of}
 use Rattle.reading.specs.declared.Reading.{Reading}
 use Rattle.reading.specs.Reading.{sound}
 use Rattle.expander.specs.Expands.{Columns, held}
-use Rattle.planner.specs.declared.Planned.{Planned}
-use Rattle.planner.specs.declared.Planned.TheVariants as P
 use Rattle.planner.specs.declared.Summary.{Summary}
 use Rattle.plan_text.specs.Text.{plan_text, refused_text, entry_line, other_lines}
 use Rattle.plan_text.specs.Writes.{shown}
 use Rattle.program_text.specs.Program.{lent_entries, start_size, start_of, program_text}
 use Rattle.program_text.specs.Files.{table_front, start_front, Holds}
+use Rattle.refusal.specs.declared.Refusal.{Refusal}
 
 -- room for the longest text: as many lines as any list has, each as long as one with both masks
 abbrev pub text_room : ℕ
@@ -47,16 +46,16 @@ abbrev pub shown_in : Summary → Columns → ℕ
 shown_in s lists = shown s.paired s.entries lists.conditions lists.absences lists.actions lists.parents lists.depths
 
 -- how many entries a plan's answer tells
-abbrev pub entries_in : Planned → ℕ
-entries_in (P.Refused x) = 0
-entries_in (P.Built s) = s.entries
+abbrev pub entries_in : (Result Summary Refusal) → ℕ
+entries_in (Err x) = 0
+entries_in (Ok s) = s.entries
 
 -- a list of no more than 4,096, and room for its text
-pub record Fits (planned : Planned) (out : List ℕ) : Type 0 where
+pub record Fits (planned : (Result Summary Refusal)) (out : List ℕ) : Type 0 where
   pub entries : entries_in planned ≤ lent_entries
   pub text_room_fits : text_room ≤ length out
 
 -- the text of a plan's answer, whose list stands in the list tables
-abbrev pub planned_text : Planned → Columns → List ℕ
-planned_text (P.Refused x) lists = refused_text (number_of x.reason) x.place
-planned_text (P.Built s) lists = plan_text s.paired s.entries s.bytes (held lists (shown_in s lists)) s.jobs s.minutes
+abbrev pub planned_text : (Result Summary Refusal) → Columns → List ℕ
+planned_text (Err x) lists = refused_text (number_of x.reason) x.place
+planned_text (Ok s) lists = plan_text s.paired s.entries s.bytes (held lists (shown_in s lists)) s.jobs s.minutes

@@ -5,8 +5,9 @@
 ghost use Rattle.expander.specs.Expands.{columns};
 ghost use Rattle.program_text.specs.Shows.{Lent, Prints, Fits, Shows, PlannedFrom, planned_text};
 
-use planner::Planned;
+use planner::Summary;
 use reading::Reading;
+use refusal::Refusal;
 
 // The bytes of a start: two masks.
 pub const START_SIZE: usize = 16;
@@ -31,7 +32,7 @@ fn start_of(start: &[u8]) -> Reading
 // The text of a plan's answer, whole where it fits, at the front of `out`. The list of a plan that was built stands in the list
 // tables.
 fn write_answer(
-    planned: Planned,
+    planned: Result<Summary, Refusal>,
     conditions: &[u64],
     absences: &[u64],
     actions: &[u8],
@@ -45,11 +46,8 @@ fn write_answer(
         out.new result }
 {
     match planned {
-        Planned::Refused(x) => {
-            let reason = x.reason;
-            plan_text::write_refused_text(refusal::number(reason), x.place, out)
-        }
-        Planned::Built(s) => plan_text::write_plan_text(
+        Err(x) => plan_text::write_refused_text(u8::from(x.reason), x.place, out),
+        Ok(s) => plan_text::write_plan_text(
             s.paired, conditions, absences, actions, parents, depths, s.entries, s.bytes, s.jobs,
             s.minutes, out,
         ),

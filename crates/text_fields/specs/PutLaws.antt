@@ -17,10 +17,6 @@ sets_out l at (x ∷ xs) h = rw (set_out l at x h) (sets_out l (suc at) xs (omeg
 pub put_none : (l : List ℕ) (at next : ℕ) → next ≡ min at (length l) → Put l l at next []
 put_none l at next e = record { stored = refl; ends = omega arith }
 
--- a byte that has no room
-pub put_dropped : (l : List ℕ) (at byte : ℕ) → length l ≤ at → Put l l at (length l) (byte ∷ [])
-put_dropped l at byte h = record { stored = sym (set_out l at byte h); ends = omega arith }
-
 pub put_length : {a b : List ℕ} {i j : ℕ} {xs : List ℕ} → Put a b i j xs → length b ≡ length a
 put_length {a} {b} {i} {j} {xs} p = ap length p.stored ∙ length-sets a i xs
 

@@ -3,15 +3,9 @@
 // end is the end.
 #![tactic(auto)]
 
-ghost use Rattle.std.specs.Prelude.{◌≡◌, [], ◌∷◌, ℕ, suc, ◌^◌, ◌≤◌, ◌<◌, min};
+ghost use Rattle.std.specs.Prelude.{◌≡◌, [], ◌∷◌, ℕ, suc, ◌^◌, ◌≤◌, ◌<◌};
 ghost use Rattle.text_fields.specs.Fields.{digit, digits, decimal, mask_text};
 ghost use Rattle.text_fields.specs.Puts.{Put, Highest};
-
-pub fn least(a: usize, b: usize) -> usize
-    ensures { result ≡ min a b }
-{
-    if a < b { a } else { b }
-}
 
 pub fn put_byte(out: &mut [u8], at: usize, byte: u8) -> usize
     ensures { Put out.old out.new at result (byte ∷ []) }
@@ -26,11 +20,9 @@ pub fn put_byte(out: &mut [u8], at: usize, byte: u8) -> usize
 pub fn put_bytes(out: &mut [u8], at: usize, bytes: &[u8]) -> usize
     ensures { Put out.old out.new at result bytes.now }
 {
-    let mut next = least(at, out.len());
-    let mut k: usize = 0;
-    while k < bytes.len() {
-        next = put_byte(out, next, bytes[k]);
-        k += 1;
+    let mut next = at.min(out.len());
+    for &byte in bytes {
+        next = put_byte(out, next, byte);
     }
     next
 }
@@ -46,11 +38,12 @@ fn digit_of(d: u64) -> u8
 }
 
 // The digits of a number from the one that stands for `highest`, a power of the base, down to the last.
+#[tactic(auto, using(crate::specs::DigitLaws::spelled_none, crate::specs::DigitLaws::spelled_more, crate::specs::DigitLaws::spelled_all, crate::specs::PutLaws::put_length))]
 fn put_digits(out: &mut [u8], at: usize, n: u64, base: u64, highest: u64) -> usize
     requires { (2 ≤ base) × (base ≤ 16) }
     ensures { (k : ℕ) → highest ≡ base ^ k → Put out.old out.new at result (digits base (suc k) n) }
 {
-    let mut next = least(at, out.len());
+    let mut next = at.min(out.len());
     let mut power = highest;
     while power > 0 {
         next = put_byte(out, next, digit_of(n / power % base));
@@ -60,14 +53,11 @@ fn put_digits(out: &mut [u8], at: usize, n: u64, base: u64, highest: u64) -> usi
 }
 
 // The power of ten that a number's first digit stands for.
+#[tactic(auto, using(crate::specs::DigitLaws::highest_is))]
 fn highest_ten(n: u64) -> u64
     ensures { Highest n result }
 {
-    let mut power: u64 = 1;
-    while power <= n / 10 {
-        power *= 10;
-    }
-    power
+    10_u64.pow(n.max(1).ilog10())
 }
 
 pub fn put_decimal(out: &mut [u8], at: usize, n: u64) -> usize

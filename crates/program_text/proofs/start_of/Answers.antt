@@ -1,5 +1,4 @@
 -- `program_text::start_of` meets its contract.
-use borrow.Author.Rules.{rules}
 use mathlib.Core.Path.{refl}
 use Rattle.masks.specs.Sets.{intersects}
 use Rattle.program_text.specs.ProgramLaws.{shared_unsound}
