@@ -12,7 +12,8 @@ use Rattle.job.specs.Validation.{validated_job}
 use Rattle.table.specs.Table.{Table, jobs_bytes, goal_bytes, table_bytes}
 use Rattle.table.specs.Read.{due, read_end, read_goal, read_jobs, read_table}
 use Rattle.table.specs.Sound.{validated_from, validated_table}
-use Rattle.table_writer.specs.Write.{unwritable_from, even, written, writing}
+use Rattle.table_writer.specs.Columns.{unwritable_from, even}
+use Rattle.table_writer.specs.Write.{written, writing}
 use Rattle.marked_cases.specs.Trailer.{job, columns_from}
 
 -- a 0x21

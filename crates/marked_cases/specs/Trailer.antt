@@ -11,7 +11,8 @@ use Rattle.job.specs.Validation.{validated_job}
 use Rattle.table.specs.Table.{Table, jobs_bytes, goal_bytes, table_bytes}
 use Rattle.table.specs.Read.{due, read_end, read_goal, read_jobs, read_table}
 use Rattle.table.specs.Sound.{validated_from, validated_table}
-use Rattle.table_writer.specs.Write.{JobColumns, columns_of, unwritable_from, even, written, writing}
+use Rattle.table_writer.specs.Columns.{JobColumns, columns_of, unwritable_from, even}
+use Rattle.table_writer.specs.Write.{written, writing}
 
 abbrev pub job : ℕ → ℕ → ℕ → ℕ → Job
 job needs adds deletes seconds = record { needs = needs; absent = 0; adds = adds; deletes = deletes; seconds = seconds; paired = false }

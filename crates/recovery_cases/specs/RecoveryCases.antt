@@ -19,7 +19,7 @@ use Rattle.flat.specs.TreeBytes.{condition_bytes, leaf_bytes, first_bytes, entry
 use Rattle.builder.specs.Plan.{table_plan}
 use Rattle.planner.specs.Plan.{start_for, plan_for}
 use Rattle.shift_planner.specs.Shift.{plan_shift}
-use Rattle.tree_shows.specs.Shown.{sound_tree, last_mask, same_bytes}
+use Rattle.tree_shows.specs.Shown.{sound_tree, last_mask}
 use Rattle.plan_recovery.specs.Recovery.{list_of, recovered}
 use Rattle.marked_cases.specs.Trailer.{trailer_bytes}
 use Rattle.marked_cases.specs.OneFactLess.{one_fact_less_bytes}
@@ -81,7 +81,7 @@ pub record RecoveryComputed : Type 0 where
   pub paired_first : recovered one_fact_less_bytes less_tree 0 ≡ refused 20 0
 
 pub recovery_computed : RecoveryComputed
-unfolding recovered sound_tree list_of last_mask same_bytes plan_for start_for plan_shift table_plan expand expand_from expand_entry listed weaker consistent satisfied applied relevant regressed subset
+unfolding recovered sound_tree list_of last_mask plan_for start_for plan_shift table_plan expand expand_from expand_entry listed weaker consistent satisfied applied relevant regressed subset
     intersects union difference within sound checked_at checked_start condition_bytes leaf_bytes first_bytes entry_bytes later_entries own_tree width_of command_at from_bytes
     to_bytes number_at has_pair Table.read_table Table.read_jobs Table.read_goal Table.read_end Table.due job_at validated_job Tree.whole_at
     Tree.operands_of Tree.node_at Tree.read_row Tree.read_node Tree.read_tree Tree.read_end
