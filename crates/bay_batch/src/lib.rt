@@ -4,18 +4,20 @@
 
 ghost use Rattle.std.specs.Prelude.{◌≡◌};
 ghost use Rattle.batch_walk.specs.Batch.{answer_rows};
-ghost use Rattle.batch_tick.specs.BatchTick.{batch_ticked_of};
 ghost use Rattle.bay_words.specs.Words.{words};
 ghost use Rattle.bay_batch.specs.BatchWords.{read_words, BatchAnswered};
+ghost use Rattle.refusal.specs.Checked.{answer_of};
 
-use batch_tick::BatchTicked;
+use batch_walk::Readings;
+use flat::Entries;
+use refusal::Refusal;
 
-fn batch_words(ticked: BatchTicked) -> [u64; 2]
-    ensures { result ≡ words 2 read_words (batch_ticked_of ticked) }
+fn batch_words(ticked: Result<usize, Refusal>) -> [u64; 2]
+    ensures { result ≡ words 2 read_words (answer_of ticked) }
 {
     match ticked {
-        BatchTicked::Ticked(read) => [0, read as u64],
-        BatchTicked::Refused(x) => [bay_words::number_of(x), x.place as u64],
+        Ok(read) => [0, read as u64],
+        Err(x) => [bay_words::number_of(x), x.place as u64],
     }
 }
 
@@ -35,9 +37,13 @@ pub extern "C" fn bay_tick_all(
         unread.now (answer_rows statuses.old values.old) (answer_rows statuses.new values.new)
         answer.new result }
 {
-    let ticked = batch_words(batch_tick::tick_all(
-        table, conditions, absences, jobs, held, unread, statuses, values,
-    ));
+    let entries = Entries {
+        conditions,
+        absences,
+        actions: jobs,
+    };
+    let readings = Readings { held, unread };
+    let ticked = batch_words(batch_tick::tick_all(table, entries, readings, statuses, values));
     *answer = ticked;
     ticked[0]
 }

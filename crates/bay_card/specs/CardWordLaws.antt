@@ -1,16 +1,15 @@
 -- Laws of a card in its lent parts.
 -- Assumes nothing.
-use Rattle.std.specs.Prelude.{◌≡◌, refl, List, ℕ}
+use Rattle.std.specs.Prelude.{◌≡◌, refl, List, ℕ, Err, Ok, Result}
 use Rattle.std.proofs.Common.{sym, ap, ◌∙◌}
-use Rattle.refusal.specs.Checked.{Checked, accepted, refused, and_then}
+use Rattle.refusal.specs.declared.Refusal.{Refusal}
+use Rattle.refusal.specs.Checked.{Checked, accepted, refused, and_then, answer_of}
 use Rattle.refusal.specs.CheckedLaws.{not_both}
 use Rattle.reading.specs.declared.Reading.{Reading}
 use Rattle.table.specs.Table.{Table}
 use Rattle.card.specs.declared.Card.{Card}
-use Rattle.card.specs.declared.CardAnswer.{CardAnswer}
-use Rattle.card.specs.declared.CardAnswer.TheVariants.{Done, Refused}
 use Rattle.card.specs.declared.CardStep.{CardStep}
-use Rattle.card.specs.Card.{with_masks, card_answer_of, answer_due, card_after, Updated}
+use Rattle.card.specs.Card.{with_masks, answer_due, card_after, Updated}
 use Rattle.card_calls.specs.Calls.{table_for, outside_read}
 use Rattle.bay_card.specs.CardWords.{card_of, CardAnswered, kept_or, Stored}
 
@@ -20,11 +19,11 @@ pub step_stored : {due : Checked Card} {step : CardStep} {seen before after : Ca
 step_stored {due} {step} {seen} {before} u s =
     record { card = s.card ∙ kept due step.answer u.answers u.leaves; answers = rw u.answers at s.answers }
   where
-    kept : (d : Checked Card) (o : CardAnswer) → card_answer_of o ≡ answer_due d → step.card ≡ card_after seen d → kept_or before step.card o ≡ card_after before d
-    kept (accepted c) Done a l = l
-    kept (accepted c) (Refused x) a l = absurd (not_both a)
-    kept (refused n p) Done a l = absurd (not_both (sym a))
-    kept (refused n p) (Refused x) a l = refl
+    kept : (d : Checked Card) (o : (Result (Unit {0}) Refusal)) → answer_of o ≡ answer_due d → step.card ≡ card_after seen d → kept_or before step.card o ≡ card_after before d
+    kept (accepted c) (Ok tt) a l = l
+    kept (accepted c) (Err x) a l = absurd (not_both a)
+    kept (refused n p) (Ok tt) a l = absurd (not_both (sym a))
+    kept (refused n p) (Err x) a l = refl
 
 -- an outside reading looks at no count: what holds of a card with the lent masks holds of every one
 module _ (table : List ℕ) (r : Reading) (held unread held' unread' : ℕ) (lent : List ℕ) (result : ℕ) where

@@ -3,26 +3,28 @@
 #![tactic(auto)]
 
 ghost use Rattle.std.specs.Prelude.{◌≡◌, ℕ};
-ghost use Rattle.card.specs.Card.{lateness_of, card_answer_of};
+ghost use Rattle.card.specs.Card.{lateness_of};
 ghost use Rattle.card_calls.specs.Calls.{opened, outside_read};
 ghost use Rattle.bay_words.specs.Words.{words};
 ghost use Rattle.bay_card.specs.CardWords.{done_words, card_of, reported_in, CardAnswered, Stored};
+ghost use Rattle.refusal.specs.Checked.{answer_of};
 
-use card::{Card, CardAnswer, CardStep};
+use card::{Card, CardStep};
 use card_calls::JobReport;
 use reading::Reading;
+use refusal::Refusal;
 
 // As in include/bay.h.
 const BAY_SECONDS_OUT_OF_RANGE: u64 = 102;
 
 const MAX_TAKEN: usize = 65_535;
 
-fn done_words(outcome: CardAnswer) -> [u64; 2]
-    ensures { result ≡ words 2 done_words (card_answer_of outcome) }
+fn done_words(outcome: Result<(), Refusal>) -> [u64; 2]
+    ensures { result ≡ words 2 done_words (answer_of outcome) }
 {
     match outcome {
-        CardAnswer::Done => [0, 0],
-        CardAnswer::Refused(x) => [bay_words::number_of(x), x.place as u64],
+        Ok(()) => [0, 0],
+        Err(x) => [bay_words::number_of(x), x.place as u64],
     }
 }
 
@@ -46,8 +48,8 @@ fn store(
     *answer = words;
     let first = words[0];
     match outcome {
-        CardAnswer::Refused(_) => first,
-        CardAnswer::Done => {
+        Err(_) => first,
+        Ok(()) => {
             let next = step.card;
             *held = next.held;
             *unread = next.unread;

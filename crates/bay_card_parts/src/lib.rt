@@ -2,18 +2,19 @@
 #![tactic(auto)]
 
 ghost use Rattle.std.specs.Prelude.{◌≡◌};
-ghost use Rattle.card.specs.Card.{card_answer_of};
 ghost use Rattle.bay_words.specs.Words.{words};
 ghost use Rattle.bay_card_parts.specs.CardParts.{done_words, card_of, Stored};
+ghost use Rattle.refusal.specs.Checked.{answer_of};
 
-use card::{CardAnswer, CardStep};
+use card::CardStep;
+use refusal::Refusal;
 
-fn done_words(outcome: CardAnswer) -> [u64; 2]
-    ensures { result ≡ words 2 done_words (card_answer_of outcome) }
+fn done_words(outcome: Result<(), Refusal>) -> [u64; 2]
+    ensures { result ≡ words 2 done_words (answer_of outcome) }
 {
     match outcome {
-        CardAnswer::Done => [0, 0],
-        CardAnswer::Refused(x) => [bay_words::number_of(x), x.place as u64],
+        Ok(()) => [0, 0],
+        Err(x) => [bay_words::number_of(x), x.place as u64],
     }
 }
 
@@ -37,8 +38,8 @@ pub fn store(
     *answer = words;
     let first = words[0];
     match outcome {
-        CardAnswer::Refused(_) => first,
-        CardAnswer::Done => {
+        Err(_) => first,
+        Ok(()) => {
             let next = step.card;
             *held = next.held;
             *unread = next.unread;

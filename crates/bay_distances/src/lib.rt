@@ -3,18 +3,18 @@
 #![tactic(auto)]
 
 ghost use Rattle.std.specs.Prelude.{◌≡◌};
-ghost use Rattle.distances.specs.Measure.{measured_of};
 ghost use Rattle.bay_words.specs.Words.{words};
 ghost use Rattle.bay_distances.specs.DistanceWords.{state_words, DistancesAnswered};
+ghost use Rattle.refusal.specs.Checked.{answer_of};
 
-use distances::Measured;
+use refusal::Refusal;
 
-fn measured_words(measured: Measured) -> [u64; 2]
-    ensures { result ≡ words 2 state_words (measured_of measured) }
+fn measured_words(measured: Result<usize, Refusal>) -> [u64; 2]
+    ensures { result ≡ words 2 state_words (answer_of measured) }
 {
     match measured {
-        Measured::States(n) => [0, n as u64],
-        Measured::Refused(x) => [bay_words::number_of(x), x.place as u64],
+        Ok(n) => [0, n as u64],
+        Err(x) => [bay_words::number_of(x), x.place as u64],
     }
 }
 

@@ -4,21 +4,22 @@
 
 ghost use Rattle.std.specs.Prelude.{◌≡◌, length};
 ghost use Rattle.expander.specs.Expands.{columns, room};
-ghost use Rattle.builder.specs.Plan.{built_of};
-ghost use Rattle.planner.specs.Plan.{plan_for, planned_of};
+ghost use Rattle.planner.specs.Plan.{plan_for};
 ghost use Rattle.shift_planner.specs.Shift.{plan_shift};
 ghost use Rattle.bay_words.specs.Words.{words};
 ghost use Rattle.bay_plan.specs.PlanWords.{summary_words, size_words, PlanAnswered, ShiftAnswered};
+ghost use Rattle.refusal.specs.Checked.{answer_of};
 
-use builder::Built;
-use planner::Planned;
+use builder::Size;
+use planner::Summary;
 use reading::Reading;
+use refusal::Refusal;
 
-fn planned_words(planned: Planned) -> [u64; 6]
-    ensures { result ≡ words 6 summary_words (planned_of planned) }
+fn planned_words(planned: Result<Summary, Refusal>) -> [u64; 6]
+    ensures { result ≡ words 6 summary_words (answer_of planned) }
 {
     match planned {
-        Planned::Built(s) => [
+        Ok(s) => [
             0,
             s.entries as u64,
             s.bytes as u64,
@@ -26,7 +27,7 @@ fn planned_words(planned: Planned) -> [u64; 6]
             s.minutes as u64,
             bay_words::flag_word(s.paired),
         ],
-        Planned::Refused(why) => [bay_words::number_of(why), why.place as u64, 0, 0, 0, 0],
+        Err(why) => [bay_words::number_of(why), why.place as u64, 0, 0, 0, 0],
     }
 }
 
@@ -65,17 +66,17 @@ pub extern "C" fn bay_plan(
     summary[0]
 }
 
-fn shift_words(planned: Built) -> [u64; 4]
-    ensures { result ≡ words 4 size_words (built_of planned) }
+fn shift_words(planned: Result<Size, Refusal>) -> [u64; 4]
+    ensures { result ≡ words 4 size_words (answer_of planned) }
 {
     match planned {
-        Built::Whole(size) => [
+        Ok(size) => [
             0,
             size.entries as u64,
             size.bytes as u64,
             bay_words::flag_word(size.paired),
         ],
-        Built::Refused(why) => [bay_words::number_of(why), why.place as u64, 0, 0],
+        Err(why) => [bay_words::number_of(why), why.place as u64, 0, 0],
     }
 }
 

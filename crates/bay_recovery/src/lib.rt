@@ -4,18 +4,18 @@
 
 ghost use Rattle.std.specs.Prelude.{◌≡◌, []};
 ghost use Rattle.expander.specs.Expands.{columns};
-ghost use Rattle.builder.specs.Plan.{listed_of};
 ghost use Rattle.bay_words.specs.Words.{words};
 ghost use Rattle.bay_recovery.specs.RecoveryWords.{list_words, RecoveryAnswered};
+ghost use Rattle.refusal.specs.Checked.{answer_of};
 
-use builder::Listed;
+use refusal::Refusal;
 
-fn list_words(listed: Listed) -> [u64; 2]
-    ensures { result ≡ words 2 list_words (listed_of listed) }
+fn list_words(listed: Result<usize, Refusal>) -> [u64; 2]
+    ensures { result ≡ words 2 list_words (answer_of listed) }
 {
     match listed {
-        Listed::Entries(n) => [0, n as u64],
-        Listed::Refused(why) => [bay_words::number_of(why), why.place as u64],
+        Ok(n) => [0, n as u64],
+        Err(why) => [bay_words::number_of(why), why.place as u64],
     }
 }
 

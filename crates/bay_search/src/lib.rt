@@ -7,17 +7,18 @@ ghost use Rattle.refusal.specs.Checked.{accepted};
 ghost use Rattle.bay_words.specs.Words.{words};
 ghost use Rattle.bay_search.specs.SearchWords.{found_words, SearchAnswered};
 
-use conditions::{Condition, Found};
+use conditions::Condition;
 
-fn found_words(found: Found) -> [u64; 3]
+fn found_words(found: Option<usize>) -> [u64; 3]
     ensures { result ≡ words 3 found_words (accepted found) }
 {
     match found {
-        Found::Nowhere => [0, 0, 0],
-        Found::At(entry) => [0, 1, entry as u64],
+        None => [0, 0, 0],
+        Some(entry) => [0, 1, entry as u64],
     }
 }
 
+#[tactic(auto, using(crate::specs::SearchWordLaws::search_answered))]
 #[unsafe(no_mangle)]
 pub extern "C" fn bay_newest_weaker(
     listed: &[u64],
@@ -29,7 +30,6 @@ pub extern "C" fn bay_newest_weaker(
     ensures { SearchAnswered listed.now absences.now (record { present = present; absent = absent }) answer.new result }
 {
     let condition = Condition { present, absent };
-    let found = found_words(conditions::newest_weaker(listed, absences, listed.len(), condition));
-    *answer = found;
-    found[0]
+    let found = conditions::newest_weaker(listed, absences, listed.len(), condition);
+    bay_words::store(found_words(found), answer)
 }

@@ -2,16 +2,19 @@
 // meaning. Every function takes every input.
 #![tactic(auto)]
 
-ghost use Rattle.std.specs.Prelude.{◌≡◌, length};
-ghost use Rattle.refusal.specs.Checked.{and_then};
+ghost use Rattle.std.specs.Prelude.{◌≡◌, ◌∷◌, length};
+ghost use Rattle.refusal.specs.Checked.{and_then, answer_of};
 ghost use Rattle.table.specs.Table.{table_bytes};
-ghost use Rattle.table.specs.Read.{read_table, headed, named_job, table_read_of, job_read_of};
-ghost use Rattle.table_writer.specs.Write.{columns_of, table_of, writing, table_written_of, lent_after};
+ghost use Rattle.table.specs.Read.{read_table, headed, named_job};
+ghost use Rattle.table_writer.specs.Columns.{columns_of};
+ghost use Rattle.table_writer.specs.Write.{table_of, writing, table_written_of, lent_after};
 ghost use Rattle.bay_words.specs.Words.{words, Answered};
 ghost use Rattle.bay_table.specs.TableWords.{header_words, job_words, writing_words};
 
-use table::{JobRead, TableRead};
-use table_writer::TableWritten;
+use job::Job;
+use table::Header;
+use table_writer::NotWritten;
+use table_writer::columns::Columns;
 
 // What the words of include/bay.h are called there.
 const BAY_TOO_SHORT: u64 = 100;
@@ -20,65 +23,57 @@ const BAY_UNEVEN: u64 = 101;
 
 const BAY_UNWRITABLE: u64 = 103;
 
-fn table_words(read: TableRead) -> [u64; 5]
-    ensures { result ≡ words 5 header_words (table_read_of read) }
+fn header_words(header: Header) -> [u64; 5]
+    ensures { result ≡ 0 ∷ header_words header }
 {
-    match read {
-        TableRead::Sound(h) => [
-            0,
-            h.facts as u64,
-            h.jobs as u64,
-            h.goal,
-            bay_words::flag_word(h.paired),
-        ],
-        TableRead::Refused(x) => [bay_words::number_of(x), x.place as u64, 0, 0, 0],
-    }
+    [
+        0,
+        header.facts as u64,
+        header.jobs as u64,
+        header.goal,
+        bay_words::flag_word(header.paired),
+    ]
 }
 
 #[unsafe(no_mangle)]
 pub extern "C" fn bay_read_table(table: &[u8], answer: &mut [u64; 5]) -> u64
     ensures { Answered (words 5 header_words (headed (read_table table.now))) answer.new result }
 {
-    let header = table_words(table::read_table(table));
-    *answer = header;
-    header[0]
+    let header = table::read_table(table).map(header_words);
+    bay_words::answer(header, answer)
 }
 
-fn job_words(read: JobRead) -> [u64; 7]
-    ensures { result ≡ words 7 job_words (job_read_of read) }
+fn job_words(job: Job) -> [u64; 7]
+    ensures { result ≡ 0 ∷ job_words job }
 {
-    match read {
-        JobRead::Named(j) => [
-            0,
-            j.needs,
-            j.adds,
-            j.deletes,
-            j.seconds as u64,
-            j.absent,
-            job::command_of(j) as u64,
-        ],
-        JobRead::Refused(x) => [bay_words::number_of(x), x.place as u64, 0, 0, 0, 0, 0],
-    }
+    [
+        0,
+        job.needs,
+        job.adds,
+        job.deletes,
+        job.seconds as u64,
+        job.absent,
+        job::command_of(job) as u64,
+    ]
 }
 
 #[unsafe(no_mangle)]
 pub extern "C" fn bay_read_job(table: &[u8], job: usize, answer: &mut [u64; 7]) -> u64
     ensures { Answered (words 7 job_words (and_then (read_table table.now) (λ t. named_job t job 0))) answer.new result }
 {
-    let named = job_words(table::read_job(table, job));
-    *answer = named;
-    named[0]
+    let named = table::read_job(table, job).map(job_words);
+    bay_words::answer(named, answer)
 }
 
-fn written_words(w: TableWritten) -> [u64; 2]
-    ensures { result ≡ writing_words (table_written_of w) }
+fn written_words(written: Result<usize, NotWritten>) -> [u64; 2]
+    ensures { result ≡ writing_words (table_written_of written) }
 {
-    match w {
-        TableWritten::Written(n) => [0, n as u64],
-        TableWritten::TooShort(n) => [BAY_TOO_SHORT, n as u64],
-        TableWritten::Uneven => [BAY_UNEVEN, 0],
-        TableWritten::Unwritable(i) => [BAY_UNWRITABLE, i as u64],
-        TableWritten::Refused(x) => [bay_words::number_of(x), x.place as u64],
+    match written {
+        Ok(size) => [0, size as u64],
+        Err(NotWritten::TooShort(size)) => [BAY_TOO_SHORT, size as u64],
+        Err(NotWritten::Uneven) => [BAY_UNEVEN, 0],
+        Err(NotWritten::Unwritable(row)) => [BAY_UNWRITABLE, row as u64],
+        Err(NotWritten::Refused(x)) => bay_words::words_of(Err(x)),
     }
 }
 
@@ -104,9 +99,14 @@ pub extern "C" fn bay_write_table(
         (table_bytes (table_of (columns_of commands.now needs.now absent.now adds.now deletes.now seconds.now)
         facts goal)) out.old }
 {
-    let written = written_words(table_writer::write_table(
-        facts, commands, needs, absent, adds, deletes, seconds, goal, out,
-    ));
-    *answer = written;
-    written[0]
+    let columns = Columns {
+        commands,
+        needs,
+        absent,
+        adds,
+        deletes,
+        seconds,
+    };
+    let written = table_writer::write_table(facts, columns, goal, out);
+    bay_words::store(written_words(written), answer)
 }

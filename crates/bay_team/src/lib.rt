@@ -3,25 +3,27 @@
 
 ghost use Rattle.std.specs.Prelude.{◌≡◌};
 ghost use Rattle.expander.specs.Expands.{columns};
-ghost use Rattle.team_planner.specs.Team.{of_each, team_of};
+ghost use Rattle.team_planner.specs.Team.{of_each};
 ghost use Rattle.bay_words.specs.Words.{words};
 ghost use Rattle.bay_team.specs.TeamWords.{team_words, TeamAnswered};
+ghost use Rattle.refusal.specs.Checked.{answer_of};
 
 use reading::Reading;
-use team_planner::TeamPlanned;
+use refusal::Refusal;
+use team_planner::TeamSize;
 
-fn team_words(planned: TeamPlanned) -> [u64; 5]
-    ensures { result ≡ words 5 team_words (team_of planned) }
+fn team_words(planned: Result<TeamSize, Refusal>) -> [u64; 5]
+    ensures { result ≡ words 5 team_words (answer_of planned) }
 {
     match planned {
-        TeamPlanned::Built(size) => [
+        Ok(size) => [
             0,
             size.entries as u64,
             size.first as u64,
             size.second as u64,
             bay_words::flag_word(size.paired),
         ],
-        TeamPlanned::Refused(why) => [bay_words::number_of(why), why.place as u64, 0, 0, 0],
+        Err(why) => [bay_words::number_of(why), why.place as u64, 0, 0, 0],
     }
 }
 

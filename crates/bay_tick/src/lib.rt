@@ -2,12 +2,13 @@
 #![tactic(auto)]
 
 ghost use Rattle.std.specs.Prelude.{◌≡◌};
-ghost use Rattle.tick.specs.Answers.{ticked_of};
 ghost use Rattle.bay_words.specs.Words.{words};
 ghost use Rattle.bay_tick.specs.TickWords.{status_words, TickAnswered};
+ghost use Rattle.refusal.specs.Checked.{answer_of};
 
 use reading::Reading;
-use tick::Ticked;
+use refusal::Refusal;
+use tree::Status;
 
 // What the words of include/bay.h are called there.
 const BAY_SUCCESS: u64 = 0;
@@ -20,16 +21,16 @@ const BAY_UNSETTLED: u64 = 3;
 
 const BAY_WAITING: u64 = 4;
 
-fn ticked_words(ticked: Ticked) -> [u64; 3]
-    ensures { result ≡ words 3 status_words (ticked_of ticked) }
+fn ticked_words(ticked: Result<Status, Refusal>) -> [u64; 3]
+    ensures { result ≡ words 3 status_words (answer_of ticked) }
 {
     match ticked {
-        Ticked::Success => [0, BAY_SUCCESS, 0],
-        Ticked::Failure => [0, BAY_FAILURE, 0],
-        Ticked::Running(job) => [0, BAY_RUNNING, job as u64],
-        Ticked::Unsettled(mask) => [0, BAY_UNSETTLED, mask],
-        Ticked::Waiting => [0, BAY_WAITING, 0],
-        Ticked::Refused(x) => [bay_words::number_of(x), x.place as u64, 0],
+        Ok(Status::Success) => [0, BAY_SUCCESS, 0],
+        Ok(Status::Failure) => [0, BAY_FAILURE, 0],
+        Ok(Status::Running(job)) => [0, BAY_RUNNING, job as u64],
+        Ok(Status::Unsettled(mask)) => [0, BAY_UNSETTLED, mask],
+        Ok(Status::Waiting) => [0, BAY_WAITING, 0],
+        Err(x) => [bay_words::number_of(x), x.place as u64, 0],
     }
 }
 

@@ -1,6 +1,8 @@
 -- The answers of the C functions, in the words that include/bay.h gives them.
 -- Definitions only.
-use Rattle.std.specs.Prelude.{◌≡◌, Bool, true, false, List, ◌∷◌, ℕ, ◌-◌, get_or, replicate}
+use Rattle.std.specs.Prelude.{◌≡◌, Bool, true, false, List, ◌∷◌, ℕ, ◌-◌, get_or, replicate, Result, Ok, Err}
+use Rattle.refusal.specs.declared.Refusal.{Refusal}
+use Rattle.refusal.specs.Numbers.{number_of}
 use Rattle.refusal.specs.Checked.{Checked, accepted, refused}
 
 -- 0, then what the call gives; of a refusal its number, its place, and 0 in every further word
@@ -17,3 +19,8 @@ flag_word true = 1
 pub record Answered (due lent : List ℕ) (result : ℕ) : Type 0 where
   pub lends : lent ≡ due
   pub gives : result ≡ get_or due 0 0
+
+-- the words of a call's result
+abbrev pub words_of : (size : ℕ) → Result (List ℕ) Refusal → List ℕ
+words_of size (Ok given) = given
+words_of size (Err x) = number_of x.reason ∷ x.place ∷ replicate (size - 2) 0

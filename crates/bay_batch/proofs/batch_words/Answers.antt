@@ -1,8 +1,8 @@
 -- `bay_batch::batch_words` meets its contract.
 use Rattle.bay_batch.proofs.batch_words.Goals as goal
 
-pub returns-in-Ticked : goal.returns-in-Ticked
-returns-in-Ticked c = rw c.in-Ticked.is
+pub returns-in-Ok : goal.returns-in-Ok
+returns-in-Ok c = rw c.in-Ok.is
 
-pub returns-in-Refused : goal.returns-in-Refused
-returns-in-Refused c = rw (c.in-Refused.is, c.number_of.ensures)
+pub returns-in-Err : goal.returns-in-Err
+returns-in-Err c = rw (c.in-Err.is, c.number_of.ensures)
