@@ -3,8 +3,8 @@
 -- labels then fall by at most 1 with each action, so that none is shorter than its first state's label. A sweep that changes a label gives a state more
 -- than the sweeps done, and labels are less than the states that have one (`small`): so there are no more sweeps than states.
 -- Assumes nothing.
-use Rattle.std.specs.Prelude.{◌≡◌, refl, Bool, true, false, List, [], ◌∷◌, ℕ, suc, ◌+◌, ◌≤◌, ◌<◌, T, length, set, if◌then◌else◌}
-use Rattle.std.proofs.Common.{◌∙◌, true≢false, arith, length-set, get_or-set_same, get_or-set_other}
+use Rattle.std.specs.Prelude.{◌≡◌, refl, Bool, true, false, List, [], ◌∷◌, ◌⊎◌, ℕ, suc, ◌+◌, ◌≤◌, ◌<◌, T, length, set, if◌then◌else◌}
+use Rattle.std.proofs.Common.{◌∙◌, true≢false, ⊎_elim, arith, length-set, get_or-set_same, get_or-set_other}
 use Rattle.std.proofs.lemmas.Bool.{false≢true}
 use Rattle.std.proofs.Math.Decide.{dec_le, ℕ_discrete}
 use Rattle.base.specs.Bools.{is_true}
@@ -14,7 +14,7 @@ use Rattle.planning.specs.Sequence.{Reaches}
 use Rattle.planning.specs.Facts.{Actions}
 use Rattle.distance_steps.specs.Distance.{no_distance, Distance, fewest, none}
 use Rattle.distance_steps.specs.Steps.{label_of, first_label, D, LeastAhead, NoneBelow}
-use Rattle.distance_sweeps.specs.Sweeps.{unlabelled, ClosedAt, UpTo, Level, Looking, Improves}
+use Rattle.distance_sweeps.specs.Sweeps.{unlabelled, ClosedAt, UpTo, Level, Looking, Improves, SweptTo}
 use Rattle.distance_sweeps.specs.CountLaws.{labelled_fewer, set_fewer, set_first}
 
 module _ (A : Actions) (goal : Condition) where
@@ -158,6 +158,65 @@ module _ (A : Actions) (goal : Condition) where
             quiet = λ e. absurd (true≢false e);
             moved = λ e. (omega (arith, here, size, none_below a can, is, L'.small s (omega (arith, K.inside, size)) (omega (arith, here, K.word s))), omega (arith, here));
           })
+
+  -- ---- a sweep, state by state
+
+  -- it begins
+  pub sweep_begun : (done : ℕ) (row : List ℕ) → Level A goal done row → SweptTo A goal done (length row) row row false
+  sweep_begun done row L =
+      record {
+        level = L;
+        sized = refl;
+        lowers = λ k. omega arith;
+        next = λ s h k. absurd (omega arith);
+        quiet = λ e. (refl, λ s h k. absurd (omega arith));
+        moved = λ e. absurd (false≢true e);
+      }
+
+  -- one state further down, whose flag `here` joins that of the states before it to `either`
+  module _ (done i j : ℕ) (up : j ≡ suc i) (before row after : List ℕ) (changed here either : Bool) (S : SweptTo A goal done j before row changed)
+      (I : Improves A goal done i row after here) (both_quiet : either ≡ false → (changed ≡ false) × (here ≡ false))
+      (one_moved : either ≡ true → (changed ≡ true) ⊎ (here ≡ true)) where
+    further : (s : ℕ) → i ≤ s → (s ≡ i → ⊥) → j ≤ s
+    further s h q = elim (dec_le j s) [ yes m ↦ m | no m ↦ absurd (q (omega arith)) ]
+
+    next : (s : ℕ) → i ≤ s → s < length after → UpTo A goal (suc done) after s
+    next s h k =
+        elim (ℕ_discrete s i) [
+          | yes q ↦ rw q I.next
+          | no q ↦ λ w r m. omega (arith, I.lowers s, S.next s (further s h q) (omega (arith, I.sized)) w r m)
+        ]
+
+    quiet : either ≡ false → (after ≡ before) × ((s : ℕ) → i ≤ s → s < length after → ClosedAt A goal after s)
+    quiet e =
+        let (same, closed) = I.quiet (both_quiet e).1 in
+        let (steady, shut) = S.quiet (both_quiet e).0 in (
+          same ∙ steady,
+          (λ s h k. elim (ℕ_discrete s i) [ yes q ↦ rw q closed | no q ↦ rw same (shut s (further s h q) (omega (arith, I.sized))) ]),
+        )
+
+    moved : either ≡ true → (suc done < length after) × (s : ℕ) × (label_of after s < label_of before s)
+    moved e =
+        ⊎_elim
+        (λ m. let (more, s, less) = S.moved m in (omega (arith, I.sized), s, omega (arith, I.lowers s)))
+        (λ m. let (more, less) = I.moved m in (more, i, omega (arith, S.lowers i)))
+        (one_moved e)
+
+    pub sweep_further : SweptTo A goal done i before after either
+    sweep_further =
+        record {
+          level = I.level;
+          sized = I.sized ∙ S.sized;
+          lowers = λ k. omega (arith, I.lowers k, S.lowers k);
+          next = next;
+          quiet = quiet;
+          moved = moved;
+        }
+
+  -- a whole sweep takes the row one level on
+  pub sweep_whole : (done : ℕ) (before after : List ℕ) (changed : Bool) → SweptTo A goal done 0 before after changed → Level A goal (suc done) after
+  sweep_whole done before after changed S =
+      record { sound = S.level.sound; upto = λ s h. S.next s (omega arith) h; small = S.level.small }
 
   -- ---- the first row, and the last
 
