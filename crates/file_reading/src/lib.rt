@@ -1,13 +1,30 @@
 // A file read into a lent buffer, as far as the buffer has room.
 #![tactic(auto)]
 
-ghost use Rattle.std.specs.Prelude.{◌≡◌, ◌<◌, IfOk};
+ghost use Rattle.std.specs.Prelude.{◌≡◌, ◌≤◌, ◌<◌, IfOk};
 ghost use Rattle.std.specs.Str.{IsUtf8};
-ghost use Rattle.file_reading.specs.Reads.{IsPrefixLen, ReadsFront};
+ghost use Rattle.file_reading.specs.Reads.{after_read, IsPrefixLen, ReadsFront};
 
 use std::io::Read;
+use std::ops::ControlFlow;
 use std::rt::Files;
 use std::{fs, io};
+
+// What a read that the system answered with `got` makes of `done` bytes in a buffer of `size`: the file ends at so many bytes, or goes on after them.
+fn after_read(
+    done: usize,
+    size: usize,
+    got: io::Result<usize>,
+) -> io::Result<ControlFlow<usize, usize>>
+    requires { done ≤ size }
+    ensures { result ≡ after_read done size got }
+{
+    let more = got?;
+    if more == 0 {
+        return Ok(ControlFlow::Break(done));
+    }
+    Ok(ControlFlow::Continue(done + more.min(size - done)))
+}
 
 // Reads until the buffer is full or the file ends, and answers how many bytes are read.
 fn read_open<F: Read>(file: &mut F, buf: &mut [u8]) -> io::Result<usize>
@@ -16,10 +33,9 @@ fn read_open<F: Read>(file: &mut F, buf: &mut [u8]) -> io::Result<usize>
     let size = buf.len();
     let mut done = 0;
     while done < size {
-        match file.read(&mut buf[done..]) {
-            Ok(0) => return Ok(done),
-            Ok(more) => done += more,
-            Err(error) => return Err(error),
+        match after_read(done, size, file.read(&mut buf[done..]))? {
+            ControlFlow::Break(n) => return Ok(n),
+            ControlFlow::Continue(n) => done = n,
         }
     }
     Ok(done)

@@ -1,8 +1,11 @@
 -- `file_reading::read_open` meets its contract: a read puts the file's next bytes after those that were read before.
-use Rattle.std.proofs.Common.{◌≡◌, ℕ, ◌+◌, ◌-◌, ◌≤◌, List, ◌++◌, arith, length, take, length-take-le, take_at, drop_at, take-add}
+use Rattle.std.proofs.Common.{◌≡◌, refl, sym, ap, ◌∙◌, ℕ, ◌+◌, ◌-◌, ◌≤◌, ◌<◌, List, ◌++◌, Option, Result, Ok, arith, length, take, length-take-le, take_at, drop_at, take-add}
+use Rattle.std.specs.Io.{ReadsAtMost}
+use Rattle.std.specs.Io.KnownBytes.{Consumes, ReadConsumes, IsAtEnd}
 use Rattle.std.proofs.KnownBytes.{Consumes-trans}
 use borrow.Rule.Slice.PartMut.{put_mid, post_of}
 use lib.Seq.{take-append-le}
+use Rattle.file_reading.specs.ReadLaws.{ended, went_on}
 use Rattle.file_reading.proofs.read_open.Goals as goal
 
 take_both : (a k n : ℕ) (xs ys : List ℕ) → a ≤ length xs → n ≤ length ys → take (a + n) (put_mid a k xs ys) ≡ take a xs ++ take n ys
@@ -11,13 +14,36 @@ take_both a k n xs ys h l =
     let rest : List ℕ = ys ++ post_of a k xs in
     rw (take-add a n (put_mid a k xs ys), take_at (take a xs) rest a size, drop_at (take a xs) rest a size, take-append-le n ys (post_of a k xs) l)
 
+-- a read that gave so many bytes, by its answer
+one_read : {E : Type 0} (before after : Option (List ℕ)) (buf : List ℕ) (r : Result ℕ E) (n : ℕ) → r ≡ Ok n → ReadsAtMost r buf → ReadConsumes before after r buf
+    → (n ≤ length buf) × Consumes before after (take n buf) × (n ≡ 0 → 0 < length buf → IsAtEnd after)
+one_read before after buf r n e = rw e (λ b c. (b.0, c.0, c.1))
+
 pub loop-done-preserved : goal.loop-done-preserved
 loop-done-preserved g c =
     let l = c.loop-done in
-    let few : c.in-Ok.more ≤ length c.read.new.buf = c.in-Ok.ensures.bound.0 in
+    let told = sym (ap Ok c.in-Continue.is) ∙ sym (c.in_ok-n.was) ∙ c.after_read.ensures in
+    let (more, is, some, z) = went_on l.done (length c.args.buf.now) c.read.result c.in-Continue.n told in
+    let (few, next, end) = one_read _ _ c.read.new.buf c.read.result more is c.read.ensures.bound c.read.ensures.bytes in
+    let sum : c.in-Continue.n ≡ l.done + more = omega arith in
     record {
       within = omega arith;
       bytes =
-          rw (take_both l.done (length l.buf - l.done) c.in-Ok.more l.buf c.read.new.buf (omega arith) few)
-          (Consumes-trans _ _ _ _ _ l.invariant.bytes c.in-Ok.ensures.bytes.0);
+          rw (sum, take_both l.done (length l.buf - l.done) more l.buf c.read.new.buf (omega arith) few)
+          (Consumes-trans _ _ _ _ _ l.invariant.bytes next);
+    }
+
+pub returns-in-Break : goal.returns-in-Break
+returns-in-Break g c =
+    let l = c.loop-done in
+    let told = sym (ap Ok c.in-Break.is) ∙ sym (c.in_ok-n.was) ∙ c.after_read.ensures in
+    let (is, z) = ended l.done (length c.args.buf.now) c.read.result c.in-Break.n told in
+    let (few, next, end) = one_read _ _ c.read.new.buf c.read.result 0 is c.read.ensures.bound c.read.ensures.bytes in
+    let sum : c.in-Break.n ≡ l.done + 0 = omega arith in
+    record {
+      front = (omega arith, sym (length-take-le c.in-Break.n _ (omega arith)));
+      bytes =
+          rw (sum, take_both l.done (length l.buf - l.done) 0 l.buf c.read.new.buf (omega arith) few)
+          (Consumes-trans _ _ _ _ _ l.invariant.bytes next);
+      end = λ h. end refl (omega arith);
     }
