@@ -1,5 +1,5 @@
-// The expansion of a goal into the list of conditions from which actions lead to it (document 01, "Expansion"; document 02, W10), over rows of the
-// actions' masks and five lent list tables. An action is document 01's job.
+// The expansion of a goal into the list of conditions from which actions lead to it (document 01, "Expansion"; document 02, W10), over a row of
+// actions and five lent list tables. An action is document 01's job.
 #![tactic(auto)]
 
 ghost use Rattle.std.specs.Prelude.{◌≡◌, ltb, length};

@@ -50,5 +50,3 @@ start_for table start = and_then (read_table table) λ t. and_then (checked_star
 -- a table's bytes and a start, with room for so many entries, by whether the list is paired, and so many bytes of a tree
 unfoldable pub plan_for : List ℕ → Reading → (Bool → ℕ) → ℕ → Plan Summary
 plan_for table start capacity room = after_checks (start_for table start) λ t. table_plan (Covers start.held) t capacity room (summary_of (tick_on table) t start.held)
-
--- ---- the answer of the code, in these terms

@@ -63,8 +63,6 @@ team_for table licences start =
 unfoldable pub plan_team : List ℕ → List ℕ → Reading → (Bool → ℕ) → (room : Fitter → ℕ) → TeamPlan
 plan_team table licences start capacity room = after_checks_of no_trees (team_for table licences start) λ t. team_plan licences t start.held capacity room
 
--- ---- the answer of the code, in these terms
-
 -- ---- what a plan leaves in every lent slice
 
 -- each tree stands at the front of the lent one
