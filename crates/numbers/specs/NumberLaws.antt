@@ -1,7 +1,9 @@
 -- Laws of numbers in bytes, each over the width.
 -- Assumes nothing.
 use Rattle.std.specs.Prelude.{ℕ, zero, suc, ◌+◌, ◌*◌, ◌/◌, ◌%◌, ◌^◌, ◌≤◌, ◌<◌, ◌≡◌, refl, List, [], ◌∷◌, ◌++◌, length, take, drop, get_or, set}
-use Rattle.std.proofs.Common.{add-zero, pow-suc, arith, sym, ap, ◌∙◌, append_assoc, length-drop, take-append-drop, take-add, drop-drop, length-take-le, drop-cons, take_at, drop_at, get_or-drop}
+use Rattle.std.proofs.Common.{add-zero, suc-add, zero-add, pow-suc, div-one, arith, sym, ap, ◌∙◌, append_assoc, length-drop, take-append-drop, take-add, drop-drop, length-take-le, drop-cons, take_at, drop_at, get_or-drop}
+use Rattle.std.proofs.Math.Nat.{pow-succ', div-div-eq-div-mul}
+use Rattle.std.proofs.Math.Arith.{mod-mul}
 use Rattle.std.proofs.lemmas.List.Edits.{sets, sets-eq}
 use Rattle.numbers.specs.Numbers.{AreBytes, from_bytes, to_bytes, number_at}
 
@@ -16,6 +18,11 @@ pub to_length : (n v : ℕ) → length (to_bytes n v) ≡ n
 unfolding to_bytes
 to_length zero v = refl
 to_length (suc n) v = ap suc (to_length n (v / 256))
+
+pub to_append : (m n v : ℕ) → to_bytes (m + n) v ≡ to_bytes m v ++ to_bytes n (v / 256 ^ m)
+unfolding to_bytes
+to_append zero n v = rw (zero-add, div-one)
+to_append (suc m) n v = rw (suc-add, to_append m n (v / 256), div-div-eq-div-mul, ← pow-succ' 256 m)
 
 -- ---- reading
 
@@ -38,6 +45,24 @@ sets_append l at (x ∷ xs) ys = sets_append (set l at x) (suc at) xs ys ∙ ap 
 -- one run of stores after another
 pub sets_after : (l xs ys : List ℕ) (at next : ℕ) → at + length xs ≡ next → sets (sets l at xs) next ys ≡ sets l at (xs ++ ys)
 sets_after l xs ys at next e = ap (λ (k : ℕ). sets (sets l at xs) k ys) (sym e) ∙ sym (sets_append l at xs ys)
+
+pub to_mod : (n v : ℕ) → to_bytes n (v % 256 ^ n) ≡ to_bytes n v
+unfolding to_bytes
+to_mod zero v = refl
+to_mod (suc n) v =
+    let e : v % 256 ^ suc n ≡ v / 256 % 256 ^ n * 256 + v % 256 = rw (pow-suc 256 n) (mod-mul v {m = 256 ^ n} {c = 256} (pow_pos n) (omega arith)) in
+    let low : v % 256 ^ suc n % 256 ≡ v % 256 = omega (arith, e) in
+    let high : v % 256 ^ suc n / 256 ≡ v / 256 % 256 ^ n = omega (arith, e) in
+    rw (low, high, to_mod n (v / 256))
+  where
+    pow_pos : (n : ℕ) → 0 < 256 ^ n
+    pow_pos zero = omega arith
+    pow_pos (suc n) = rw pow-suc (omega (arith, pow_pos n))
+
+-- a number written in two parts, the lower one first
+pub write_append : (l : List ℕ) (at m n v : ℕ) → sets (sets l at (to_bytes m (v % 256 ^ m))) (at + m) (to_bytes n (v / 256 ^ m)) ≡ sets l at (to_bytes (m + n) v)
+write_append l at m n v =
+    rw (to_mod, to_append, sets_append) (ap (λ (k : ℕ). sets (sets l at (to_bytes m v)) (at + k) (to_bytes n (v / 256 ^ m))) (sym (to_length m v)))
 
 -- ---- there and back
 
