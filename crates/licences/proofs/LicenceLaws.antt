@@ -1,6 +1,6 @@
 -- Laws of the licences: how a row is judged, turn by turn, and that each job is one fitter's alone.
 -- Assumes nothing.
-use Rattle.std.specs.Prelude.{ℕ, suc, ◌<◌, ◌≡◌, refl, Bool, true, false, List, [], ◌∷◌, eqb, length, get_or, if◌then◌else◌}
+use Rattle.std.specs.Prelude.{ℕ, suc, ◌<◌, ◌≡◌, refl, Bool, true, false, not, List, [], ◌∷◌, eqb, length, get_or, if◌then◌else◌}
 use Rattle.std.proofs.Math.Decide.{dec_le}
 use Rattle.std.proofs.Common.{arith, sym, ◌∙◌, ⊎_elim, eq-eqb, ne_eqb}
 use Rattle.std.proofs.Math.Path.{ap}
@@ -61,6 +61,14 @@ licences_number jobs licences n p = by_length (eqb (length licences) jobs)
     by_length false e = cc
 
 -- ---- whose job it is
+
+pub first_owns : (second : Bool) → not second ≡ is_fitter First (if second then Second else First)
+first_owns true = refl
+first_owns false = refl
+
+pub second_owns : (second : Bool) → second ≡ is_fitter Second (if second then Second else First)
+second_owns true = refl
+second_owns false = refl
 
 -- the owner has the job, and the other has not
 pub owner_owns : (owner : Fitter) → is_fitter owner owner ≡ true
