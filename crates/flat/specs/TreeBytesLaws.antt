@@ -10,7 +10,7 @@ use mathlib.Core.List.{List, [], ◌∷◌, ◌++◌, append_assoc, append-nil}
 use Rattle.std.proofs.Math.ListN.{length, set, length-append}
 use Rattle.std.proofs.lemmas.List.Edits.{sets, sets-eq}
 use Rattle.base.specs.Lists.{length_prefix}
-use Rattle.commands.specs.Commands.{JOB_LEAF, WAITING, FALLBACK_SIZE, SEQUENCE_SIZE, CONDITION_SIZE, JOB_LEAF_SIZE, PAIR_SIZE, WAITING_SIZE, END_OF_TREE_SIZE, OPERANDS_AT, MASK_WIDTH}
+use Rattle.commands.specs.Commands.{JOB_LEAF, WAITING, END_OF_TREE, FALLBACK_SIZE, SEQUENCE_SIZE, CONDITION_SIZE, JOB_LEAF_SIZE, PAIR_SIZE, WAITING_SIZE, END_OF_TREE_SIZE, OPERANDS_AT, MASK_WIDTH}
 use Rattle.numbers.specs.Numbers.{to_bytes}
 use Rattle.numbers.specs.NumberLaws.{sets_after}
 use Rattle.conditions.specs.declared.Condition.{Condition}
@@ -172,6 +172,9 @@ module _ (l : List ℕ) (at : ℕ) where
   pub waiting_put : (action : ℕ) → Puts (leaf_bytes false action) at l (set l at WAITING) (at + WAITING_SIZE)
   unfolding leaf_bytes
   waiting_put action = record { written = refl; past = refl }
+
+  pub end_put : Puts end_bytes at l (set l at END_OF_TREE) (at + END_OF_TREE_SIZE)
+  end_put = record { written = refl; past = refl }
 
 -- ---- the tree of the first entries of the columns, as it grows
 
