@@ -148,18 +148,22 @@ goal_written l at goal =
     rw (sets_after l (GOAL ∷ []) (to_bytes 8 goal) at (at + OPERANDS_AT) refl)
     (sets_after l (GOAL ∷ to_bytes 8 goal) (END_OF_TABLE ∷ []) at (at + GOAL_SIZE) (omega (arith, to_length 8 goal)))
 
+-- where the job after a row stands
+pub row_ends : (js : List Job) (row : Job) (i at : ℕ) → i < length js → at ≡ offset_of js i → row ≡ get_or js i no_job → at + job_size row ≡ offset_of js (i + 1)
+row_ends js row i at h e r = rw (r, e, add-one i) (sym (next_offset js i h))
+
 -- ---- the jobs of the rows
 
 module _ (c : JobColumns) where
-  rows_length : length (rows c) ≡ length c.commands
+  pub rows_length : length (rows c) ≡ length c.commands
   rows_length = length_prefix (row_at c) (length c.commands)
 
-  row_of : (i : ℕ) → i < length c.commands → get_or (rows c) i no_job ≡ row_at c i
-  row_of i h = get_d_prefix (row_at c) (length c.commands) i no_job h
+  pub row_of : (i : ℕ) → i < length c.commands → row_at c i ≡ get_or (rows c) i no_job
+  row_of i h = sym (get_d_prefix (row_at c) (length c.commands) i no_job h)
 
-  -- where the job after a row stands
-  row_ends : (i at : ℕ) (row : Job) → i < length c.commands → at ≡ offset_of (rows c) i → row ≡ row_at c i → at + job_size row ≡ offset_of (rows c) (i + 1)
-  row_ends i at row h e r = let inside : i < length (rows c) = omega (arith, rows_length) in rw (r, e, add-one i, next_offset (rows c) i inside, row_of i h)
+  -- the same of a row of the columns
+  next_stands : (i at : ℕ) (row : Job) → i < length c.commands → at ≡ offset_of (rows c) i → row ≡ row_at c i → at + job_size row ≡ offset_of (rows c) (i + 1)
+  next_stands i at row h e r = row_ends (rows c) row i at (omega (arith, rows_length)) e (r ∙ row_of i h)
 
 -- what is stored before a row: the bytes of the rows before it, and its own would stand at the offset
 pub record StoredTo (c : JobColumns) (before out : List ℕ) (i at : ℕ) : Type 0 where
@@ -176,17 +180,17 @@ module _ {c : JobColumns} {before out : List ℕ} {i at : ℕ} (s : StoredTo c b
 
   module _ (h : i < length c.commands) (row : Job) (r : row ≡ row_at c i) where
     pub row_inside : FACTS_SIZE + length (jobs_bytes (rows c)) ≤ length before → at + job_size row ≤ length out
-    row_inside l = omega (arith, row_ends c i at row h s.stands r, offset_within (rows c) (i + 1), ap length s.stored, length-sets before FACTS_SIZE (jobs_bytes (take i (rows c))))
+    row_inside l = omega (arith, next_stands c i at row h s.stands r, offset_within (rows c) (i + 1), ap length s.stored, length-sets before FACTS_SIZE (jobs_bytes (take i (rows c))))
 
     pub row_stored : (next : ℕ) → next ≡ at + job_size row → (after : List ℕ) → after ≡ sets out at (job_bytes row) → StoredTo c before after (i + 1) next
     unfolding offset_of
     row_stored next n after a =
         let inside : i < length (rows c) = omega (arith, rows_length c) in
         record {
-          stands = n ∙ row_ends c i at row h s.stands r;
+          stands = n ∙ next_stands c i at row h s.stands r;
           stored =
               a
-              ∙ rw (s.stored, add-one i, take-suc (rows c) i no_job inside, row_of c i h, r, jobs_snoc (take i (rows c)) (row_at c i))
+              ∙ rw (s.stored, add-one i, take-suc (rows c) i no_job inside, ← row_of c i h, r, jobs_snoc (take i (rows c)) (row_at c i))
               (sets_after before (jobs_bytes (take i (rows c))) (job_bytes (row_at c i)) FACTS_SIZE at (sym s.stands));
         }
 
@@ -211,7 +215,7 @@ table_written l jobs out t at size e z h j g =
 -- ---- the checks, one job after another
 
 -- what the checks come to from job i on, which would stand at the offset
-abbrev remaining : ℕ → ℕ → List Job → ℕ → ℕ → Checked Table
+abbrev pub remaining : ℕ → ℕ → List Job → ℕ → ℕ → Checked Table
 remaining facts goal js i at = validated_from facts goal (max_jobs - i) (take i js) (drop i js) at
 
 -- the rows before this one passed: the checks from it on come to what those of the whole table come to
@@ -231,7 +235,7 @@ none_passed c facts goal e = record { few = omega arith; stands = sym (first_off
 module _ {c : JobColumns} {facts goal i at : ℕ} (p : PassedTo c facts goal i at) where
   module _ (h : i < length c.commands) where
     more : drop i (rows c) ≡ row_at c i ∷ drop (suc i) (rows c)
-    more = let inside : i < length (rows c) = omega (arith, rows_length c) in drop-cons (rows c) i no_job inside ∙ rw (row_of c i h)
+    more = let inside : i < length (rows c) = omega (arith, rows_length c) in drop-cons (rows c) i no_job inside ∙ rw (← row_of c i h)
 
     pub too_many : i ≡ max_jobs → refused 4 at ≡ placed (validated_table (table_of c facts goal))
     unfolding validated_from
@@ -251,8 +255,8 @@ module _ {c : JobColumns} {facts goal i at : ℕ} (p : PassedTo c facts goal i a
           let inside : i < length (rows c) = omega (arith, rows_length c) in
           record {
             few = omega (arith, p.few);
-            stands = row_ends c i at row h p.stands r;
-            comes_to = rw (← p.comes_to, left, more, ← r, ← e, add-one i, take-suc (rows c) i no_job inside, row_of c i h, ← r);
+            stands = next_stands c i at row h p.stands r;
+            comes_to = rw (← p.comes_to, left, more, ← r, ← e, add-one i, take-suc (rows c) i no_job inside, ← row_of c i h, ← r);
           }
 
   pub passed_small : at ≤ FACTS_SIZE + PAIRED_JOB_SIZE * max_jobs
@@ -337,34 +341,36 @@ module _ (c : JobColumns) where
       each : (i : ℕ) → StorableJob (get_or (rows c) i no_job)
       each i =
           elim (dec_lt i (length c.commands)) [
-            | yes h ↦ rw (row_of c i h) (row i h)
+            | yes h ↦ rw (← row_of c i h) (row i h)
             | no h ↦ rw (get_or-eq_default (rows c) no_job {n = i} (rw rows_length (omega arith))) blank
           ]
 
 -- ---- what comes of it, each way with the lent slice
 
-module _ {c : JobColumns} (f : ColumnsFit c) (facts goal : ℕ) (g : goal < 2 ^ 64) (l : List ℕ) where
+module _ (c : JobColumns) (facts goal : ℕ) (l : List ℕ) (fits : first_unwritable c ≡ None → facts < 256 → Storable (table_of c facts goal)) where
   wrote : (r : Result ℕ NotWritten) (after : List ℕ) → table_written_of r ≡ writing c facts goal (length l)
       → after ≡ lent_after (table_written_of r) (table_bytes (table_of c facts goal)) l → Wrote c facts goal l after r
-  wrote r after e a =
-      record { answer = e; lent = rw (← e) a; as_read = λ w h. sym (read_written (table_of c facts goal) (columns_storable c facts goal f g w h)) }
+  wrote r after e a = record { answer = e; lent = rw (← e) a; as_read = λ w h. sym (read_written (table_of c facts goal) (fits w h)) }
 
-  pub wrote_uneven : false ≡ even c → Wrote c facts goal l l (Err NotWritten.Uneven)
+  pub wrote_uneven : even c ≡ false → Wrote c facts goal l l (Err NotWritten.Uneven)
   unfolding writing
-  wrote_uneven e = wrote (Err NotWritten.Uneven) l (rw (← e)) refl
+  wrote_uneven e = wrote (Err NotWritten.Uneven) l (rw e) refl
 
-  module _ (v : true ≡ even c) where
-    pub wrote_unwritable : (i : ℕ) → Some i ≡ first_unwritable c → Wrote c facts goal l l (Err (NotWritten.Unwritable i))
+  module _ (e : even c ≡ true) where
+    pub wrote_unwritable : (i : ℕ) → first_unwritable c ≡ Some i → Wrote c facts goal l l (Err (NotWritten.Unwritable i))
     unfolding writing
-    wrote_unwritable i w = wrote (Err (NotWritten.Unwritable i)) l (rw (← v, ← w)) refl
+    wrote_unwritable i w = wrote (Err (NotWritten.Unwritable i)) l (rw (e, w)) refl
 
-    module _ (w : None ≡ first_unwritable c) where
-      -- the refusal of the checks is handed on
-      pub wrote_unsound : (x : Refusal) → refused_by x ≡ placed (validated_table (table_of c facts goal)) → (r : Result ℕ NotWritten)
-          → IsErrAnd r (λ e. e ≡ NotWritten.Refused x) → Wrote c facts goal l l r
+    module _ (w : first_unwritable c ≡ None) where
+      pub wrote_unsound : (x : Refusal) → refused_by x ≡ validated_table (table_of c facts goal) → Wrote c facts goal l l (Err (NotWritten.Refused x))
       unfolding writing
-      wrote_unsound x j (Ok n) h = absurd h
-      wrote_unsound x j (Err e) h = rw h (wrote (Err (NotWritten.Refused x)) l (rw (← v, ← w, ← placed_refused (table_of c facts goal) _ _ j)) refl)
+      wrote_unsound x j = wrote (Err (NotWritten.Refused x)) l (rw (e, w, ← j)) refl
+
+      -- the refusal of the checks is handed on
+      pub wrote_refused : (x : Refusal) → refused_by x ≡ placed (validated_table (table_of c facts goal)) → (r : Result ℕ NotWritten)
+          → IsErrAnd r (λ e. e ≡ NotWritten.Refused x) → Wrote c facts goal l l r
+      wrote_refused x j (Ok n) h = absurd h
+      wrote_refused x j (Err y) h = rw h (wrote_unsound x (placed_refused (table_of c facts goal) _ _ j))
 
       module _ (at size : ℕ) (j : Passed (table_of c facts goal) at) (z : at + GOAL_SIZE + END_OF_TABLE_SIZE ≡ size) where
         is_size : length (table_bytes (table_of c facts goal)) ≡ size
@@ -372,8 +378,8 @@ module _ {c : JobColumns} (f : ColumnsFit c) (facts goal : ℕ) (g : goal < 2 ^ 
 
         pub wrote_short : length l < size → Wrote c facts goal l l (Err (NotWritten.TooShort size))
         unfolding writing
-        wrote_short s = wrote (Err (NotWritten.TooShort size)) l (rw (← v, ← w, ← j.is_sound, is_size, lt-leb size (length l) s)) refl
+        wrote_short s = wrote (Err (NotWritten.TooShort size)) l (rw (e, w, ← j.is_sound, is_size, lt-leb size (length l) s)) refl
 
         pub wrote_whole : size ≤ length l → (after : List ℕ) → after ≡ table_bytes (table_of c facts goal) ++ drop size l → Wrote c facts goal l after (Ok size)
         unfolding writing
-        wrote_whole s after a = wrote (Ok size) after (rw (← v, ← w, ← j.is_sound, is_size, le-leb size (length l) s)) a
+        wrote_whole s after a = wrote (Ok size) after (rw (e, w, ← j.is_sound, is_size, le-leb size (length l) s)) a
