@@ -2,7 +2,7 @@
 -- Assumes nothing.
 use Prim.Native.Nat.{ℕ, zero, suc, ◌+◌, ◌≤◌, ◌<◌}
 use Rattle.std.proofs.Math.Numerals.{add-one}
-use Rattle.std.proofs.Common.{arith, ◌∙◌}
+use Rattle.std.proofs.Common.{arith, ◌∙◌, eq-eqb, ne_eqb}
 use Rattle.std.specs.Prelude.{◌≡◌, Bool, not, ◌&&◌, List, eqb, length, get_or, if◌then◌else◌}
 use Rattle.std.proofs.Math.Path.{refl, sym, ap, subst}
 use Rattle.std.proofs.Math.Bool.{true, false}
@@ -71,6 +71,15 @@ module _ (c : Condition) (met : Numbered) (r : Reading) (a : Numbered) (h : may_
       by_going false = refl
 
 module _ (present : ℕ) (r : Reading) (status : ℕ) where
+  -- the two tests, one after the other
+  pub meets_stopped : (status ≡ 1 → ⊥) → false ≡ may_meet present r status
+  unfolding may_meet
+  meets_stopped h = rw (ne_eqb status 1 h)
+
+  pub meets_going : status ≡ 1 → subset present (union r.held r.unread) ≡ may_meet present r status
+  unfolding may_meet
+  meets_going h = rw (eq-eqb status 1 h)
+
   -- one that an entry may stop goes on
   pub meets_told : may_meet present r status ≡ true → status ≡ 1
   unfolding may_meet
