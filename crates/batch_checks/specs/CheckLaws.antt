@@ -1,10 +1,10 @@
 -- The checks, one element after the other.
 -- Assumes nothing.
-use Rattle.std.specs.Prelude.{ℕ, ◌+◌, ◌≤◌, ◌<◌, ◌≡◌, Bool, ◌&&◌, List, [], leb, if◌then◌else◌}
+use Rattle.std.specs.Prelude.{ℕ, ◌+◌, ◌≤◌, ◌<◌, ◌≡◌, Bool, ◌&&◌, List, [], leb, ltb, if◌then◌else◌}
 use Rattle.std.proofs.Common.{sym, ap, ◌∙◌, below_more}
 use Rattle.std.proofs.Math.Path.{refl}
 use Rattle.std.proofs.Math.Bool.{true, false}
-use borrow.Author.Tests.{le-leb, lt-leb}
+use borrow.Author.Tests.{eq-eqb, ne_eqb, le-leb, lt-leb}
 use Rattle.base.specs.Lists.{length_prefix}
 use Rattle.refusal.specs.Checked.{accepted, refused, checked_each}
 use Rattle.refusal.specs.CheckedLaws.{each_passed, each_refused}
@@ -12,6 +12,7 @@ use Rattle.reading.specs.declared.Reading.{Reading}
 use Rattle.reading.specs.Reading.{checked_at}
 use Rattle.reading.specs.ReadingLaws.{checked_told}
 use Rattle.conditions.specs.declared.Condition.{Condition}
+use Rattle.conditions.specs.Condition.{condition_within}
 use Rattle.planning.specs.Expansion.{Entry}
 use Rattle.planning.specs.Columns.{max_entries, entry_at}
 use Rattle.flat.specs.TreeBytes.{tree_entries}
@@ -36,6 +37,22 @@ module _ (facts : ℕ) (held unread : List ℕ) where
       → refused number place ≡ checked_at facts v (reading_at held unread v) → refused number place ≡ checked_readings facts (readings_of held unread n)
   reading_refused n v number place l h e =
       sym (each_refused (checked_at facts) (reading_at held unread) (reading_at held unread) v number place h (sym e) n l)
+
+-- ---- one entry
+
+module _ (facts jobs i : ℕ) (c : Condition) (job : ℕ) where
+  pub entry_wide : false ≡ condition_within facts c → false ≡ entry_fits facts jobs i c job
+  unfolding entry_fits
+  entry_wide e = rw (← e)
+
+  module _ (e : true ≡ condition_within facts c) where
+    pub entry_first : i ≡ 0 → true ≡ entry_fits facts jobs i c job
+    unfolding entry_fits
+    entry_first h = rw (← e, eq-eqb i 0 h)
+
+    pub entry_later : (i ≡ 0 → ⊥) → ltb job jobs ≡ entry_fits facts jobs i c job
+    unfolding entry_fits
+    entry_later h = rw (← e, ne_eqb i 0 h)
 
 -- ---- entries
 
