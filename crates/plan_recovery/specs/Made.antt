@@ -1,6 +1,6 @@
 -- The plan that is made for the last condition that a tree shows, in tables that no caller sees.
 -- Definitions only.
-use Rattle.std.specs.Prelude.{ℕ, ◌≡◌, Bool, false, List, length, Result, MatchResult}
+use Rattle.std.specs.Prelude.{ℕ, ◌≡◌, Bool, false, List, length, Result}
 use Rattle.refusal.specs.declared.Refusal.{Refusal}
 use Rattle.refusal.specs.Checked.{answer_of}
 use Rattle.table.specs.Table.{Table}
@@ -10,6 +10,7 @@ use Rattle.expander.specs.declared.Until.TheVariants.{Covers}
 use Rattle.expander.specs.Expands.{Columns, room, written}
 use Rattle.builder.specs.declared.Size.{Size}
 use Rattle.builder.specs.Plan.{pairs, Plan, table_plan, size_of, WritesPlan}
+use Rattle.recovery_parts.specs.Parts.{bytes_of}
 use Rattle.tree_shows.specs.Shown.{HasEntries, last_mask, same_bytes}
 
 -- the plan for the last mask that a tree shows, with room for n entries and for the tree of every list
@@ -29,7 +30,7 @@ pub record Made (t : Table) (tree : List ℕ) (n : ℕ) (after : Columns) (bytes
   pub lent : List ℕ
   pub built : Result Size Refusal
   pub writes : WritesPlan (table_plan (Covers (last_mask tree)) t (room before) (length lent) (size_of (pairs t))) before after lent bytes (answer_of built)
-  pub told : MatchResult built (λ size. k ≡ size.bytes) (λ _. k ≡ 0)
+  pub told : k ≡ bytes_of (answer_of built)
   pub shown : HasEntries (pairs t) (length tree) n
   pub has_room : HasRoom n before
   pub enough : length lent ≡ tree_size false (max_entries false)

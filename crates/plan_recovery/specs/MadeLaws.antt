@@ -1,6 +1,6 @@
 -- The plan that is made for the last condition that a tree shows: what it leaves in tables with room for as many entries as the tree shows, and its bytes.
 -- Assumes nothing.
-use Rattle.std.specs.Prelude.{ℕ, ◌≤◌, ◌≡◌, Bool, false, List, length, take, drop, Result, Ok, Err, MatchResult}
+use Rattle.std.specs.Prelude.{ℕ, ◌≤◌, ◌≡◌, Bool, false, List, length, take, drop, Result, Ok, Err}
 use Rattle.std.proofs.Common.{arith, sym, ap, ◌∙◌, length-append, take_at}
 use Rattle.refusal.specs.declared.Refusal.{Refusal}
 use Rattle.refusal.specs.Checked.{answer_of}
@@ -13,6 +13,7 @@ use Rattle.builder.specs.declared.Size.{Size}
 use Rattle.builder.specs.Plan.{pairs, table_list, Plan, one_tree, table_plan, size_of, WritesPlan}
 use Rattle.builder.specs.FinishLaws.{refused_tree}
 use Rattle.builder.specs.PlanLaws.{plan_paired, whole_told}
+use Rattle.recovery_parts.specs.Parts.{bytes_of}
 use Rattle.tree_shows.specs.Shown.{last_mask, same_bytes}
 use Rattle.plan_recovery.specs.Made.{made_for, Made, Compares}
 
@@ -37,7 +38,7 @@ module _ {t : Table} {tree : List ℕ} {n : ℕ} {after : Columns} {bytes : List
   unfolding table_plan
   bytes_told = by_answer M.built M.told (sym writes_it.answer_and_tree.answer)
     where
-      by_answer : (r : Result Size Refusal) → MatchResult r (λ size. k ≡ size.bytes) (λ _. k ≡ 0) → (made_for t tree n).answer ≡ answer_of r
+      by_answer : (r : Result Size Refusal) → k ≡ bytes_of (answer_of r) → (made_for t tree n).answer ≡ answer_of r
           → k ≡ length (made_for t tree n).tree
       by_answer (Ok size) told a =
           let w = whole_told (pairs t) (Covers (last_mask tree)) (tree_size false (max_entries false)) (size_of (pairs t)) (table_list (Covers (last_mask tree)) t (λ paired. n)) size a in

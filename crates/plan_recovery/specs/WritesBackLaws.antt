@@ -24,7 +24,7 @@ use Rattle.builder.specs.Plan.{pairs, Plan, list_and_tree, size_of}
 use Rattle.tree_shows.specs.Shown.{sound_tree, HasEntries, Shows, last_mask, same_bytes}
 use Rattle.tree_shows.specs.ShownLaws.{same_bytes_equal, bytes_same}
 use Rattle.recovery_parts.specs.Parts.{judged_for, told_of, copied, Holds}
-use Rattle.recovery_parts.specs.PartsLaws.{copied_list}
+use Rattle.recovery_parts.specs.PartsLaws.{copied_written}
 use Rattle.plan_recovery.specs.Recovery.{list_of, fitting, recovered, WritesBack}
 use Rattle.plan_recovery.specs.Made.{made_for, Compares}
 use Rattle.plan_recovery.specs.RecoveryLaws.{Source, source_few, source_size, shown_plan_is, plan_is, wrote_source, wrote_same, source_list}
@@ -35,19 +35,21 @@ abbrev pub plain_tables : Columns → Columns
 plain_tables t = columns t.conditions [] t.actions t.parents t.depths
 
 -- tables with room for n entries hold as many
-holds_room : (t : Columns) (n : ℕ) → n ≤ room t false → Holds n t
-holds_room t n fits =
-    let c = length t.conditions in
-    let s = length t.absences in
-    let a = length t.actions in
-    let p = length t.parents in
-    let d = length t.depths in
-    record {
-      in_conditions = omega (arith, fits, capacity_conditions c s a p d false);
-      in_actions = omega (arith, fits, capacity_actions c s a p d false);
-      in_parents = omega (arith, fits, capacity_parents c s a p d false);
-      in_depths = omega (arith, fits, capacity_depths c s a p d false);
-    }
+module _ (t : Columns) where
+  pub holds_room : (n : ℕ) → ltb (room t false) n ≡ false → Holds n t
+  holds_room n f =
+      let c = length t.conditions in
+      let s = length t.absences in
+      let a = length t.actions in
+      let p = length t.parents in
+      let d = length t.depths in
+      let fits : n ≤ room t false = ltb-false (room t false) n f in
+      record {
+        in_conditions = omega (arith, fits, capacity_conditions c s a p d false);
+        in_actions = omega (arith, fits, capacity_actions c s a p d false);
+        in_parents = omega (arith, fits, capacity_parents c s a p d false);
+        in_depths = omega (arith, fits, capacity_depths c s a p d false);
+      }
 
 -- and so do those to which a list of n was written, whose entries are given back if there is room for them
 module _ (l : List (Entry Condition)) (lists : Columns) {from : Columns} {n : ℕ} (w : from ≡ written false l lists) (size : length l ≡ n) where
@@ -61,7 +63,7 @@ module _ (l : List (Entry Condition)) (lists : Columns) {from : Columns} {n : �
       })
 
   list_back : (room : ℕ) → n ≤ room → (before : Columns) → WritesBack (fitting room l) before (copied n from before) (accepted n)
-  list_back room h before = rw (le-leb (length l) room (omega arith), w, ← size) (record { answer = refl; tables = copied_list l lists before })
+  list_back room h before = rw (le-leb (length l) room (omega arith), w, ← size) (record { answer = refl; tables = copied_written l lists before })
 
 holds_none : (t : Columns) → Holds 0 t
 holds_none t = record { in_conditions = omega arith; in_actions = omega arith; in_parents = omega arith; in_depths = omega arith }
@@ -146,7 +148,7 @@ module _ (table : List ℕ) (b : AreBytes table) (t : Table) (tree : List ℕ) (
               → Holds (told_of (judged_for s full n)) (plain_tables from) × Holds (told_of (judged_for s full n)) before
           by false full e f = (holds_none _, holds_none _)
           by true true e f = (holds_none _, holds_none _)
-          by true false e f = (holds_written list C.before C.tables (planned_due e).1, holds_room before n (ltb-false (room before false) n f))
+          by true false e f = (holds_written list C.before C.tables (planned_due e).1, holds_room before n f)
 
       pub told_back : {after : Columns} → after ≡ copied k from before → WritesBack (and_then (list_of t table tree) λ l. fitting (room before false) l) before after answer
       told_back c = rw (c, i, j) (by same (ltb (room before false) n) refl refl)

@@ -57,7 +57,7 @@ fn recover_under(
         &mut planned_depths,
         &mut bytes,
     );
-    let written = built.map_or(0, |size| size.bytes);
+    let written = recovery_parts::bytes_built(built);
     let planned = tree_shows::is_same(&bytes[..written], tree);
     let room = expander::capacity_of(
         false,

@@ -4,9 +4,17 @@
 ghost use Rattle.std.specs.Prelude.{◌≡◌, []};
 ghost use Rattle.refusal.specs.Checked.{answer_of};
 ghost use Rattle.expander.specs.Expands.{columns};
-ghost use Rattle.recovery_parts.specs.Parts.{judged_for, told_of, copied, Holds};
+ghost use Rattle.recovery_parts.specs.Parts.{bytes_of, judged_for, told_of, copied, Holds};
 
+use builder::Size;
 use refusal::{Reason, Refusal};
+
+// How many bytes of a tree were written.
+pub fn bytes_built(built: Result<Size, Refusal>) -> usize
+    ensures { result ≡ bytes_of (answer_of built) }
+{
+    built.map_or(0, |size| size.bytes)
+}
 
 // Of n entries that a plan lists which writes the tree or not, in tables that have room for them or are full before. A plan that writes the tree is asked
 // for first, then room for its list.

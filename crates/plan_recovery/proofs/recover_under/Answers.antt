@@ -1,5 +1,5 @@
 -- `plan_recovery::recover_under` meets its contract.
-use Rattle.std.proofs.Common.{rules, ◌≡◌, refl, sym, ap, ◌∙◌, length, length-take-le}
+use Rattle.std.proofs.Common.{◌≡◌, refl, sym, ap, ◌∙◌, length, length-take-le}
 use Rattle.refusal.specs.Checked.{accepted}
 use Rattle.table.specs.Table.{Table}
 use Rattle.table.specs.Read.{headed}
@@ -12,11 +12,11 @@ use Rattle.plan_recovery.specs.MadeLaws.{bytes_fit, compares}
 use Rattle.plan_recovery.specs.RecoveryLaws.{sound_told}
 use Rattle.plan_recovery.specs.WritesBackLaws.{header_is, none_back, told_held, told_back}
 use Rattle.plan_recovery.proofs.recover_under.Goals as goal
-use Rattle.plan_recovery.proofs.recover_under.Goals.{After-map_or-written}
+use Rattle.plan_recovery.proofs.recover_under.Goals.{After-bytes_built-written}
 
 -- the plan that was made
-made : (c : After-map_or-written) (t : Table) → accepted t ≡ sound_tree c.args.table.now c.args.tree.now
-    → let b = c.build-built.new in Made t c.args.tree.now c.in-Some.n (columns b.conditions b.absences b.actions b.parents b.depths) b.tree c.map_or-written.result
+made : (c : After-bytes_built-written) (t : Table) → accepted t ≡ sound_tree c.args.table.now c.args.tree.now
+    → let b = c.build-built.new in Made t c.args.tree.now c.in-Some.n (columns b.conditions b.absences b.actions b.parents b.depths) b.tree c.bytes_built-written.result
 made c t e =
     let S : HasEntries (pairs t) (length c.args.tree.now) c.in-Some.n = rw (header_is c.requires t e) at c.in-Some.ensures in
     record {
@@ -24,7 +24,7 @@ made c t e =
       lent = _;
       built = _;
       writes = rw c.last_mask-start.ensures at (c.build-built.ensures t (sym (sound_told _ _ t (sym e)).0));
-      told = search rules;
+      told = c.bytes_built-written.ensures;
       shown = S;
       has_room = record { conditions = length-take-le _ _ S.few; actions = refl; parents = refl; depths = refl };
       enough = refl;
@@ -45,15 +45,15 @@ slice_bounds-bytes-end c = let t = headed_sound (sound_tree _ _) c.requires in b
 pub slice_bounds-is_same-end : goal.slice_bounds-is_same-end
 slice_bounds-is_same-end c =
     let t = headed_sound (sound_tree _ _) c.requires in
-    sym (length-take-le _ _ (bytes_fit (made (goal.at.slice_bounds-is_same-end c).After-map_or-written t.0 t.1)))
+    sym (length-take-le _ _ (bytes_fit (made (goal.at.slice_bounds-is_same-end c).After-bytes_built-written t.0 t.1)))
 
 pub copy_list-requires : goal.copy_list-requires
 copy_list-requires c =
     let t = headed_sound (sound_tree _ _) c.requires in
-    let C = compares (made (goal.at.copy_list-requires c).After-map_or-written t.0 t.1) c.is_same-planned.ensures in
+    let C = compares (made (goal.at.copy_list-requires c).After-bytes_built-written t.0 t.1) c.is_same-planned.ensures in
     told_held _ (λ i. (c.type_inv.table i).fits) t.0 _ t.1 C (rw c.capacity_of-room.ensures at c.judge-listed.ensures) c.entries_told.ensures
 
 pub returns : goal.returns
 returns c t e =
-    let C = compares (made (goal.at.returns c).After-map_or-written t e) c.is_same-planned.ensures in
+    let C = compares (made (goal.at.returns c).After-bytes_built-written t e) c.is_same-planned.ensures in
     told_back _ (λ i. (c.type_inv.table i).fits) t _ e C (rw c.capacity_of-room.ensures at c.judge-listed.ensures) c.entries_told.ensures c.copy_list.ensures
