@@ -100,6 +100,16 @@ module _ (paired : Bool) (facts jobs : ℕ) (l : List (Entry Condition)) (ys : L
 
 -- ---- under a table that was read
 
+module _ (header : Header) (l : List (Entry Condition)) (rs : List Reading) (t : AnswerRows) where
+  pub refused_reading : (n p : ℕ) → refused n p ≡ checked_readings header.facts rs → WritesAnswers (batch_under header l rs) t t (refused n p)
+  unfolding batch_under
+  refused_reading n p e = record { answer = rw (← e); written = rw (← e) }
+
+  module _ (e : accepted rs ≡ checked_readings header.facts rs) where
+    pub refused_list : (n p : ℕ) → refused n p ≡ checked_list header.paired header.facts header.jobs l → WritesAnswers (batch_under header l rs) t t (refused n p)
+    unfolding batch_under
+    refused_list n p f = record { answer = rw (← e, ← f); written = rw (← e, ← f) }
+
 -- once all is judged, the answers of the walk stand
 pub walked_answers : (header : Header) (l : List (Entry Condition)) (rs : List Reading) {before after : AnswerRows} {read : ℕ} → accepted rs ≡ checked_readings header.facts rs
     → accepted l ≡ checked_list header.paired header.facts header.jobs l → Walks l rs before after read → WritesAnswers (batch_under header l rs) before after (accepted read)
