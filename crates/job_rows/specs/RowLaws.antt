@@ -1,13 +1,14 @@
 -- One job more in a row, and all of them.
 -- Assumes nothing.
-use Rattle.std.specs.Prelude.{ℕ, ◌+◌, ◌≤◌, ◌<◌, ◌≡◌, List, map, length, get_or, take, drop, set}
-use Rattle.std.proofs.Common.{arith, sym, ap, ◌∙◌, length-take-le, length-set, drop-drop, get_or-set_same, get_or-set_other}
+use Rattle.std.specs.Prelude.{ℕ, zero, suc, ◌+◌, ◌≤◌, ◌<◌, ◌≡◌, refl, List, [], ◌∷◌, ◌++◌, map, length, get_or, take, drop, set}
+use Rattle.std.proofs.Common.{add-one, arith, sym, ap, ◌∙◌, take_at, take-append-drop, length-take-le, length-set, drop-drop, get_or-set_same, get_or-set_other}
 use Rattle.std.proofs.lemmas.List.{length-map, get_or-take, ext_get_or, drop-set-lt}
 use Rattle.std.proofs.Math.Decide.{dec_le}
 use Rattle.std.proofs.Math.ListN.{get_or-map}
+use Rattle.std.proofs.Math.Seq.{take-length}
 use Rattle.job.specs.declared.Job.{Job}
 use Rattle.job.specs.Job.{no_job}
-use Rattle.job_rows.specs.Rows.{Loads}
+use Rattle.job_rows.specs.Rows.{Loads, loaded}
 
 module _ {A : Type 0} {Part : Job → A → Type 0} {jobs : List Job} {n : ℕ} {before now : List A} (L : Loads Part jobs n before now) where
   -- lists that agree from n on agree from n + 1 on
@@ -35,3 +36,37 @@ module _ {A : Type 0} {Part : Job → A → Type 0} {jobs : List Job} {n : ℕ} 
       get_or-take n now i (part no_job) (omega (arith, size))
       ∙ is (get_or jobs i no_job) (get_or now i (part no_job)) (L.parts (part no_job) i (omega (arith, size)))
       ∙ sym (get_or-map part jobs i no_job))
+
+-- ---- a row of numbers
+
+module _ (field : Job → ℕ) where
+  load_next : (jobs : List Job) (row : List ℕ) (i : ℕ) → i < length jobs → i < length row
+      → set (loaded field jobs row i) i (field (get_or jobs i no_job)) ≡ loaded field jobs row (suc i)
+  load_next [] row i h k = absurd (omega arith)
+  load_next (j ∷ jobs) [] i h k = absurd (omega arith)
+  load_next (j ∷ jobs) (x ∷ row) zero h k = refl
+  load_next (j ∷ jobs) (x ∷ row) (suc i) h k = ap (λ (l : List ℕ). field j ∷ l) (load_next jobs row i (omega arith) (omega arith))
+
+  pub load_turn : (jobs : List Job) (row now : List ℕ) (i : ℕ) (j : Job) → now ≡ loaded field jobs row i → j ≡ get_or jobs i no_job
+      → i < length jobs → i < length row → set now i (field j) ≡ loaded field jobs row (i + 1)
+  load_turn jobs row now i j e k h r = rw (e, k, add-one i) (load_next jobs row i h r)
+
+  -- all of them
+  pub load_whole : (jobs : List Job) (row : List ℕ) (count : ℕ) → count ≡ length jobs → take count (loaded field jobs row count) ≡ map field jobs
+  load_whole jobs row count e =
+      let all : map field (take count jobs) ≡ map field jobs = ap (map field) (ap (λ (k : ℕ). take k jobs) e ∙ take-length jobs) in
+      rw all (take_at (map field jobs) (drop count row) count (length-map jobs field ∙ sym e))
+
+  -- a row into which they are loaded, in these terms
+  module _ {jobs : List Job} {n : ℕ} {before now : List ℕ} (L : Loads (λ (j : Job) (x : ℕ). x ≡ field j) jobs n before now) where
+    pub loads_loaded : n ≤ length jobs → n ≤ length before → now ≡ loaded field jobs before n
+    loads_loaded h k =
+        let size : length (take n now) ≡ n = length-take-le n now (omega (arith, L.sized)) in
+        let few : length (take n jobs) ≡ n = length-take-le n jobs h in
+        let front : take n now ≡ map field (take n jobs) =
+        ext_get_or (field no_job) (take n now) (map field (take n jobs)) (omega (arith, size, few, length-map (take n jobs) field)) (λ i l.
+        get_or-take n now i (field no_job) (omega (arith, size))
+        ∙ L.parts (field no_job) i (omega (arith, size))
+        ∙ ap field (sym (get_or-take n jobs i no_job (omega (arith, size))))
+        ∙ sym (get_or-map field (take n jobs) i no_job)) in
+        sym (take-append-drop n now) ∙ ap (λ (l : List ℕ). l ++ drop n now) front ∙ ap (λ (l : List ℕ). map field (take n jobs) ++ l) L.past
