@@ -64,3 +64,7 @@ pub record ActionWithin (f : ℕ) (a : Action) : Type 0 where
 -- condition i of two columns: where the second is not lent, nothing is to be absent
 abbrev pub condition_at : List ℕ → List ℕ → ℕ → Condition
 condition_at conditions absences i = record { present = get_or conditions i 0; absent = get_or absences i 0 }
+
+-- action i of four columns
+abbrev pub action_at : List ℕ → List ℕ → List ℕ → List ℕ → ℕ → Action
+action_at needs absent adds deletes i = record { needs = get_or needs i 0; absent = get_or absent i 0; adds = get_or adds i 0; deletes = get_or deletes i 0 }

@@ -3,7 +3,7 @@
 #![tactic(auto)]
 
 ghost use Rattle.std.specs.Prelude.{◌≡◌, true, ◌-◌, ◌≤◌, length, get_or, set};
-ghost use Rattle.conditions.specs.Condition.{consistent, condition_within, satisfied, relevant, regressed, condition_at};
+ghost use Rattle.conditions.specs.Condition.{consistent, condition_within, satisfied, relevant, regressed, condition_at, action_at};
 ghost use Rattle.masks.specs.Sets.{others};
 ghost use Rattle.conditions.specs.Search.{Sharing, Searches};
 ghost use Rattle.conditions.specs.OnReading.{evaluated, applicable, finished};
@@ -54,6 +54,22 @@ pub fn condition_at(conditions: &[u64], absences: &[u64], i: usize) -> Condition
     let present = mask_at(conditions, i);
     let absent = mask_at(absences, i);
     Condition { present, absent }
+}
+
+// The action at an index of four columns.
+pub fn action_at(needs: &[u64], absent: &[u64], adds: &[u64], deletes: &[u64], i: usize) -> Action
+    ensures { result ≡ action_at needs.now absent.now adds.now deletes.now i }
+{
+    let needed = mask_at(needs, i);
+    let lacked = mask_at(absent, i);
+    let added = mask_at(adds, i);
+    let deleted = mask_at(deletes, i);
+    Action {
+        needs: needed,
+        absent: lacked,
+        adds: added,
+        deletes: deleted,
+    }
 }
 
 // ---- conditions among themselves
