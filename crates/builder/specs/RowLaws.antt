@@ -24,7 +24,8 @@ use Rattle.job_rows.specs.RowLaws.{loads_whole}
 use Rattle.planning.specs.Facts.{Actions}
 use Rattle.expander.specs.declared.Expanded.{Expanded}
 use Rattle.expander.specs.declared.Until.{Until}
-use Rattle.expander.specs.Expands.{Columns, actions_in, Unasked, Expands}
+use Rattle.expander.specs.Expands.{Columns, actions_in, actions_for, Unasked, Expands}
+use Rattle.expander.specs.ExpandsLaws.{for_all}
 use Rattle.builder.specs.Plan.{job_of, table_actions, pairs}
 
 -- ---- the list of a table's actions
@@ -64,6 +65,12 @@ module _ (s : List ℕ) (b : AreBytes s) (h : Header) (e : accepted h ≡ headed
       let (t, r, same) = headed_sound (read_table s) e in
       let none : pairs t ≡ false = ap (λ x. x.paired) same ∙ is_false h.paired p in
       rw (q, ← r, get_or-map action_of t.jobs a no_job) (no_absent s b t (sym r) none a)
+
+  -- so an expansion, as its list is paired or not, takes the jobs as they are
+  pub header_taken : (actions : List Action) → actions ≡ map action_of (jobs_of (read_table s)) → actions_for h.paired actions ≡ actions_in actions
+  header_taken actions q =
+      for_all h.paired actions (omega (arith, header_few, header_count, ap length q, length-map (jobs_of (read_table s)) action_of))
+      (header_unasked actions q)
 
   module _ (t : Table) (r : accepted t ≡ read_table s) where
     pub same_header : header_of t ≡ h

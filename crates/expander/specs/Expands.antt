@@ -1,11 +1,12 @@
 -- What an expansion answers and leaves in the lent list tables, by the definition of the plan: document 01, "Expansion"; document 02, W10.
 -- Definitions only.
-use Rattle.std.specs.Prelude.{◌≡◌, Bool, true, false, not, List, [], ℕ, ◌<◌, min, T, length, get_or, if◌then◌else◌}
+use Rattle.std.specs.Prelude.{◌≡◌, Bool, true, false, not, List, [], ℕ, ◌^◌, ◌<◌, min, T, length, get_or, if◌then◌else◌}
+use Rattle.std.specs.Int.Bits.{bit_and}
 pub use Rattle.base.specs.Lists.{over}
 use Rattle.refusal.specs.Checked.{Checked, accepted, refused, and_then}
 use Rattle.conditions.specs.declared.Action.{Action}
 use Rattle.conditions.specs.declared.Condition.{Condition}
-use Rattle.conditions.specs.Condition.{satisfied}
+use Rattle.conditions.specs.Condition.{satisfied, action_at}
 use Rattle.planning.specs.Expansion.{Entry, Outcome, exhausted, covered, full, entries}
 use Rattle.planning.specs.Columns.{max_entries, entries_of}
 use Rattle.planning.specs.Facts.{Actions, fact_plan}
@@ -24,9 +25,35 @@ no_action = record { needs = 0; absent = 0; adds = 0; deletes = 0 }
 abbrev pub actions_in : List Action → Actions
 actions_in actions = record { count = min (length actions) 128; action = λ a. get_or actions a no_action }
 
--- where the list of conditions is not paired, no action needs a fact absent
+-- so many second masks, of which a list that is not paired has none
+abbrev pub if_paired : Bool → ℕ → ℕ
+if_paired paired n = if paired then n else 0
+
+-- an action as a list of conditions takes it: where the list is not paired, none of the facts that the action needs absent count
+abbrev pub action_for : Bool → Action → Action
+action_for paired a = record { needs = a.needs; absent = if_paired paired a.absent; adds = a.adds; deletes = a.deletes }
+
+-- a mask that leaves of what is needed absent what counts: all of it, or nothing
+abbrev pub Asks : Bool → ℕ → Type 0
+Asks paired asked = (a : ℕ) → a < 2 ^ 64 → bit_and a asked ≡ if_paired paired a
+
+-- the actions of a list, as it takes them
+abbrev pub actions_for : Bool → List Action → Actions
+actions_for paired actions = record { count = min (length actions) 128; action = λ a. action_for paired (get_or actions a no_action) }
+
+-- where the list is not paired, no action needs a fact absent
 abbrev pub Unasked : Bool → Actions → Type 0
 Unasked paired A = T (not paired) → (a : ℕ) → a < A.count → (A.action a).absent ≡ 0
+
+-- ---- the actions, in four rows of masks
+
+-- how many, by the lengths of the rows: the shortest counts, and "0 to 128 JOBs numbered from 0"; past the row of absent facts there are none
+unfoldable pub count_of : ℕ → ℕ → ℕ → ℕ
+count_of needs adds deletes = min (min (min needs adds) deletes) 128
+
+abbrev pub actions_of : List ℕ → List ℕ → List ℕ → List ℕ → Actions
+actions_of needs absent adds deletes =
+    record { count = count_of (length needs) (length adds) (length deletes); action = action_at needs absent adds deletes }
 
 -- ---- the lent list tables, as the five columns of a list of entries
 -- `paired` says that actions may need facts absent, though none of them has to: "once the table has a 0x21 .. its list takes a further lent table for
@@ -62,10 +89,6 @@ abbrev pub written : Bool → List (Entry Condition) → Columns → Columns
 written paired l t =
     columns (over (λ x. x.condition.present) l t.conditions) (if paired then over (λ x. x.condition.absent) l t.absences else t.absences)
     (over (λ x. x.action) l t.actions) (over (λ x. x.parent) l t.parents) (over (λ x. x.depth) l t.depths)
-
--- so many second masks, of which a list that is not paired has none
-abbrev pub if_paired : Bool → ℕ → ℕ
-if_paired paired n = if paired then n else 0
 
 -- where the list is not paired, no second masks are lent
 abbrev pub Unlent : Bool → List ℕ → Type 0

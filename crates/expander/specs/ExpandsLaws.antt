@@ -1,14 +1,19 @@
 -- What a caller of the expansion learns: the tables hold the list of the plan, and the list has the properties that the theory of plans shows.
 -- Assumes nothing.
-use Rattle.std.specs.Prelude.{◌≡◌, refl, Bool, not, ◌↔◌, List, [], map, ℕ, suc, ◌≤◌, ◌<◌, T, length, get_or, take, drop, if◌then◌else◌, None}
+use Rattle.std.specs.Prelude.{◌≡◌, refl, Bool, not, ◌↔◌, List, [], map, ℕ, suc, ◌-◌, ◌^◌, ◌≤◌, ◌<◌, T, length, get_or, take, drop, if◌then◌else◌, None}
+use Rattle.std.specs.Int.Bits.{bit_and}
 use Rattle.std.proofs.Common.{sym, ap, ◌∙◌, subst, T_not, length-append}
 use Rattle.std.proofs.Math.Bool.{true, false}
 use native.Mathlib.Omega.{arith}
 use Rattle.std.proofs.lemmas.List.{length-map}
-use Rattle.std.proofs.Math.ListN.{get_or-append, get_or-map}
+use Rattle.std.proofs.lemmas.Nat.{and_mask}
+use Rattle.std.proofs.Math.Decide.{dec_le}
+use Rattle.std.proofs.Math.Path.{fun_ext}
+use Rattle.std.proofs.Math.ListN.{get_or-append, get_or-map, get_or-eq_default}
 use Rattle.std.proofs.Math.Seq.{take-length}
 use Rattle.base.specs.Lists.{get_d_inside}
 use Rattle.refusal.specs.Checked.{accepted, and_then}
+use Rattle.conditions.specs.declared.Action.{Action}
 use Rattle.conditions.specs.declared.Condition.{Condition}
 use Rattle.conditions.specs.Condition.{condition_at, condition_within}
 use Rattle.conditions.specs.Search.{newest_weaker}
@@ -30,7 +35,61 @@ use Rattle.expander.specs.declared.Expanded.{Expanded}
 use Rattle.expander.specs.declared.Expanded.TheVariants as X
 use Rattle.expander.specs.declared.Until.{Until}
 use Rattle.expander.specs.declared.Until.TheVariants as U
-use Rattle.expander.specs.Expands.{Columns, capacity_of, room, held, over, if_paired, ended_by, plan_in, expanded_of, listed_by, outcome_of, Expands}
+use Rattle.expander.specs.Expands.{no_action, actions_in, if_paired, action_for, actions_for, Unasked, count_of}
+use Rattle.expander.specs.Expands.{Columns, capacity_of, room, held, over, ended_by, plan_in, expanded_of, listed_by, outcome_of, Expands}
+
+-- ---- the facts that are needed absent
+
+same_actions : {n : ℕ} {f g : ℕ → Action} → ((a : ℕ) → f a ≡ g a) → ◌≡◌ {A = Actions} (record { count = n; action = f }) (record { count = n; action = g })
+same_actions h = rw (fun_ext h)
+
+-- a mask has none but the 64 facts
+pub every_fact : (a : ℕ) → a < 2 ^ 64 → bit_and a (2 ^ 64 - 1) ≡ a
+every_fact a h = omega (arith, and_mask a 64)
+
+-- a list that is not paired takes no fact to be absent
+pub for_unasked : (paired : Bool) (actions : List Action) → Unasked paired (actions_for paired actions)
+for_unasked true actions p a h = absurd p
+for_unasked false actions p a h = refl
+
+-- where no action needs one absent, it takes the actions as they are
+pub for_all : (paired : Bool) (actions : List Action) → length actions ≤ 128 → Unasked paired (actions_in actions)
+    → actions_for paired actions ≡ actions_in actions
+for_all true actions few u = refl
+for_all false actions few u = same_actions (λ a. plain_action (get_or actions a no_action) (none a))
+  where
+    plain_action : (x : Action) → x.absent ≡ 0 → action_for false x ≡ x
+    plain_action x z = rw (sym z)
+
+    none : (a : ℕ) → (get_or actions a no_action).absent ≡ 0
+    none a = elim (dec_le (length actions) a) [
+      | yes past ↦ rw (get_or-eq_default actions no_action past)
+      | no l ↦ u tt a (omega (arith, few))
+    ]
+
+-- ---- the number of actions in rows of masks
+
+module _ (needs adds deletes : ℕ) where
+  pub count_needs : count_of needs adds deletes ≤ needs
+  unfolding count_of
+  count_needs = omega arith
+
+  pub count_adds : count_of needs adds deletes ≤ adds
+  unfolding count_of
+  count_adds = omega arith
+
+  pub count_deletes : count_of needs adds deletes ≤ deletes
+  unfolding count_of
+  count_deletes = omega arith
+
+  pub count_most : count_of needs adds deletes ≤ 128
+  unfolding count_of
+  count_most = omega arith
+
+-- rows of one length have an action each
+pub count_rows : (n : ℕ) → n ≤ 128 → count_of n n n ≡ n
+unfolding count_of
+count_rows n h = omega arith
 
 -- ---- the capacity
 

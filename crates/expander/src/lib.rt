@@ -2,9 +2,9 @@
 // actions and five lent list tables. An action is document 01's job.
 #![tactic(auto)]
 
-ghost use Rattle.std.specs.Prelude.{◌≡◌, ltb, length};
+ghost use Rattle.std.specs.Prelude.{◌≡◌, Bool};
 ghost use Rattle.conditions.specs.Condition.{plain};
-ghost use Rattle.expander.specs.Expands.{actions_in, columns, capacity_of, ended_by, if_paired, Unlent, Unasked, Expands};
+ghost use Rattle.expander.specs.Expands.{action_for, actions_for, Asks, columns, capacity_of, ended_by, if_paired, Unlent, Expands};
 
 use conditions::{Action, Condition};
 
@@ -64,6 +64,24 @@ pub fn if_paired(paired: bool, n: usize) -> usize
     if paired { n } else { 0 }
 }
 
+// Of the facts that an action needs absent all count, or none where the list is not paired.
+#[tactic(auto, using(crate::specs::ExpandsLaws::every_fact))]
+fn asked_absent(paired: bool) -> u64
+    ensures { Asks paired result }
+{
+    if paired { u64::MAX } else { 0 }
+}
+
+// The job as the list takes it.
+fn action_for(asked: u64, job: Action) -> Action
+    ensures { (paired : Bool) → Asks paired asked → result ≡ action_for paired job }
+{
+    Action {
+        absent: job.absent & asked,
+        ..job
+    }
+}
+
 // Does a listed condition end the list?
 fn ends_list(until: Until, condition: Condition) -> bool
     ensures { result ≡ ended_by until condition }
@@ -75,7 +93,8 @@ fn ends_list(until: Until, condition: Condition) -> bool
 }
 
 // Lists the conditions from which the jobs lead to the goal, nearest first, up to the first that ends the list. Entry i stands at i of `conditions`,
-// `absences`, `actions`, `parents` and `depths`, where `actions` has the number of a job; no second masks are lent for a list that is not paired.
+// `absences`, `actions`, `parents` and `depths`, where `actions` has the number of a job. For a list that is not paired no second masks are lent, and
+// the facts that its jobs need absent do not count.
 #[tactic(auto, using(crate::specs::ExpandsLaws::capacity_conditions, crate::specs::ExpandsLaws::capacity_actions, crate::specs::ExpandsLaws::capacity_parents, crate::specs::ExpandsLaws::capacity_depths))]
 pub fn expand(
     paired: bool,
@@ -88,8 +107,8 @@ pub fn expand(
     parents: &mut [u16],
     depths: &mut [u16],
 ) -> Expanded
-    requires { Unlent paired absences.old × Unasked paired (actions_in jobs.now) }
-    ensures { Expands paired (actions_in jobs.now) (plain goal) until
+    requires { Unlent paired absences.old }
+    ensures { Expands paired (actions_for paired jobs.now) (plain goal) until
         (columns conditions.old absences.old actions.old parents.old depths.old)
         (columns conditions.new absences.new actions.new parents.new depths.new) result }
 {
@@ -117,6 +136,7 @@ pub fn expand(
         return Expanded::Covered(1);
     }
     let count = jobs.len().min(MAX_ACTIONS);
+    let asked = asked_absent(paired);
     // The list has n entries, and those below e are expanded.
     let mut n: usize = 1;
     let mut e: usize = 0;
@@ -127,7 +147,7 @@ pub fn expand(
         let condition = conditions::condition_at(conditions, absences, e);
         let depth = depths[e];
         'actions: for a in 0..count {
-            let action = jobs[a];
+            let action = action_for(asked, jobs[a]);
             if conditions::is_relevant(action, condition) {
                 let new = conditions::regress(action, condition);
                 // A condition that wants a fact both ways is dropped.

@@ -4,12 +4,14 @@ use Rattle.std.proofs.Common.{◌≡◌, List, set, refl, sym, ap, ◌∙◌, Bo
 use Rattle.std.specs.Prelude.{None, Option, Some}
 use Rattle.std.specs.Option.{is_some}
 use Rattle.base.specs.Bools.{holds, fails}
+use Rattle.conditions.specs.declared.Action.{Action}
 use Rattle.conditions.specs.declared.Condition.{Condition}
 use Rattle.conditions.specs.Condition.{plain, relevant, consistent, regressed}
 use Rattle.conditions.specs.Search.{newest_weaker}
 use Rattle.planning.specs.Facts.{Actions}
 use Rattle.expander.specs.declared.Expanded.TheVariants as X
-use Rattle.expander.specs.Expands.{actions_in, Columns, columns, room, ended_by, Unlent}
+use Rattle.expander.specs.Expands.{actions_for, Columns, columns, room, ended_by, Unlent}
+use Rattle.expander.specs.ExpandsLaws.{for_unasked}
 use Rattle.expander.proofs.Tables.{Holds, holds_none, holds_on, expands}
 use Rattle.expander.proofs.Loops.{AtEntry, Wanted, no_room, root_held, goal_met, first_entry, exhausts}
 use Rattle.expander.proofs.Loops.{enter, leave, skip_irrelevant, skip_inconsistent, skip_listed, fills, holds_new, ends, grows}
@@ -21,10 +23,17 @@ nowhere None e = refl
 nowhere (Some i) e = absurd (cc)
 
 -- what an action makes of the condition in hand is wanted
-new_wanted : (A : Actions) (t : Columns) {n : ℕ} {c : Condition} {a : ℕ} {new : Condition} → a < A.count → true ≡ relevant (A.action a) c
-    → new ≡ regressed (A.action a) c → true ≡ consistent new → is_some (newest_weaker t.conditions t.absences n new) ≡ false → Wanted A t n c a new
-new_wanted A t below serves made possible searched =
-    record { below = below; serves = holds _ (sym serves); made = made; possible = holds _ (sym possible); searched = nowhere _ searched }
+new_wanted : (A : Actions) (t : Columns) {n : ℕ} {c : Condition} {a : ℕ} {action : Action} {new : Condition} → a < A.count → action ≡ A.action a
+    → true ≡ relevant action c → new ≡ regressed action c → true ≡ consistent new → is_some (newest_weaker t.conditions t.absences n new) ≡ false
+    → Wanted A t n c a new
+new_wanted A t {c = c} below same serves made possible searched =
+    record {
+      below = below;
+      serves = holds _ (ap (λ (x : Action). relevant x c) (sym same) ∙ sym serves);
+      made = made ∙ ap (λ (x : Action). regressed x c) same;
+      possible = holds _ (sym possible);
+      searched = nowhere _ searched;
+    }
 
 -- the tables hold what was stored since entry 0 was
 entries_held : {paired : Bool} {A : Actions} {root : Condition} {stop : Condition → Bool} {capacity n e : ℕ} {t : Columns} (lent : Columns)
@@ -38,28 +47,28 @@ pub returns-then-capacity-eq0 : goal.returns-then-capacity-eq0
 returns-then-capacity-eq0 c =
     let lent = columns c.args.conditions.now c.args.absences.now c.args.actions.now c.args.parents.now c.args.depths.now in
     let room_is = c.capacity_of-capacity.ensures in
-    expands room_is (X.Full 0) (holds_none lent c.requires.0 room_is) (no_room _ _ _ _ lent c.requires.0 room_is c.if-capacity-eq0.true)
+    expands room_is (X.Full 0) (holds_none lent c.requires room_is) (no_room _ _ _ _ lent c.requires room_is c.if-capacity-eq0.true)
 
 pub returns-then-ends_list : goal.returns-then-ends_list
 returns-then-ends_list c =
     let lent = columns c.args.conditions.now c.args.absences.now c.args.actions.now c.args.parents.now c.args.depths.now in
     let room_is = c.capacity_of-capacity.ensures in
     let some : 0 < c.capacity_of-capacity.result = omega arith in
-    let A = actions_in c.args.jobs.now in
+    let A = actions_for c.args.paired c.args.jobs.now in
     let root = plain c.args.goal in
     rw c.set_mask.ensures
-    (expands room_is (X.Covered 1) (root_held root lent c.requires.0 room_is some)
-    (goal_met c.args.paired A root (ended_by c.args.until) lent c.requires.0 room_is refl some (holds _ (sym c.if-ends_list.ensures))))
+    (expands room_is (X.Covered 1) (root_held root lent c.requires room_is some)
+    (goal_met c.args.paired A root (ended_by c.args.until) lent c.requires room_is refl some (holds _ (sym c.if-ends_list.ensures))))
 
 pub entries-init : goal.entries-init
 entries-init c =
     let lent = columns c.args.conditions.now c.args.absences.now c.args.actions.now c.args.parents.now c.args.depths.now in
     let room_is = c.capacity_of-capacity.ensures in
     let some : 0 < c.capacity_of-capacity.result = omega arith in
-    let A = actions_in c.args.jobs.now in
+    let A = actions_for c.args.paired c.args.jobs.now in
     let root = plain c.args.goal in
     rw c.set_mask.ensures
-    (first_entry c.args.paired A root (ended_by c.args.until) lent c.requires.0 room_is refl some (fails _ (sym c.if-ends_list.ensures)))
+    (first_entry c.args.paired A root (ended_by c.args.until) lent c.requires room_is refl some (fails _ (sym c.if-ends_list.ensures)))
 
 pub actions-init : goal.actions-init
 actions-init c = enter c.entries.invariant (λ q. omega (arith, c.if-e-n.false)) c.condition_at-condition.ensures
@@ -69,24 +78,26 @@ actions-preserved c =
     let x = c.actions in
     let I = x.invariant in
     let t = columns x.conditions x.absences x.actions x.parents x.depths in
-    let A = actions_in c.args.jobs.now in
+    let A = actions_for c.args.paired c.args.jobs.now in
     let below : x.a < A.count = omega (arith, c.actions-test.true, c.min-count.ensures) in
+    let same : c.action_for-action.result ≡ A.action x.a = c.action_for-action.ensures c.args.paired c.asked_absent-asked.ensures in
     elim c.if-is_relevant.branch [
       | then-is_relevant+then-is_consistent+then-is_none+else-n-capacity+else-ends_list-2 w ↦
-          let wanted = new_wanted A t below w.if-is_relevant.ensures w.regress-new.ensures w.if-is_consistent.ensures
+          let wanted = new_wanted A t below same w.if-is_relevant.ensures w.regress-new.ensures w.if-is_consistent.ensures
           (ap is_some (sym w.newest_weaker.ensures.answer) ∙ w.if-is_none.ensures) in
           rw (w.conditions-is, w.absences-is, w.actions-is, w.parents-is, w.depths-is, w.n-is, w.set_mask-then-is_none.ensures)
-          (grows I wanted c.requires.1 w.if-n-capacity.false (fails _ (sym w.if-ends_list-2.ensures)))
+          (grows I wanted (for_unasked c.args.paired c.args.jobs.now) w.if-n-capacity.false (fails _ (sym w.if-ends_list-2.ensures)))
       | then-is_relevant+then-is_consistent+else-is_none w ↦
           rw (w.conditions-is, w.absences-is, w.actions-is, w.parents-is, w.depths-is, w.n-is)
-          (skip_listed I below _ w.regress-new.ensures
+          (skip_listed I below _ (w.regress-new.ensures ∙ ap (λ (a : Action). regressed a c.condition_at-condition.result) same)
           (λ q. let none = ap is_some (sym q ∙ sym w.newest_weaker.ensures.answer) ∙ w.if-is_none.ensures in absurd (cc)))
       | then-is_relevant+else-is_consistent w ↦
           rw (w.conditions-is, w.absences-is, w.actions-is, w.parents-is, w.depths-is, w.n-is)
-          (skip_inconsistent I below _ w.regress-new.ensures (fails _ (sym w.if-is_consistent.ensures)))
+          (skip_inconsistent I below _ (w.regress-new.ensures ∙ ap (λ (a : Action). regressed a c.condition_at-condition.result) same)
+          (fails _ (sym w.if-is_consistent.ensures)))
       | else-is_relevant w ↦
           rw (w.conditions-is, w.absences-is, w.actions-is, w.parents-is, w.depths-is, w.n-is)
-          (skip_irrelevant I below (fails _ (sym w.if-is_relevant.ensures)))
+          (skip_irrelevant I below (fails _ (ap (λ (a : Action). relevant a c.condition_at-condition.result) (sym same) ∙ sym w.if-is_relevant.ensures)))
     ]
 
 pub entries-preserved : goal.entries-preserved
@@ -99,7 +110,7 @@ returns-then-e-n c =
     let room_is = c.capacity_of-capacity.ensures in
     let I = c.entries.invariant in
     expands room_is (X.Exhausted _)
-    (entries_held lent c.requires.0 room_is (omega arith) c.args.goal c.set_mask.ensures I)
+    (entries_held lent c.requires room_is (omega arith) c.args.goal c.set_mask.ensures I)
     (exhausts I c.if-e-n.true)
 
 pub returns-then-n-capacity : goal.returns-then-n-capacity
@@ -107,15 +118,16 @@ returns-then-n-capacity c =
     let x = c.actions in
     let t = columns x.conditions x.absences x.actions x.parents x.depths in
     let lent = columns c.args.conditions.now c.args.absences.now c.args.actions.now c.args.parents.now c.args.depths.now in
-    let A = actions_in c.args.jobs.now in
+    let A = actions_for c.args.paired c.args.jobs.now in
     let below : x.a < A.count = omega (arith, c.actions-test.true, c.min-count.ensures) in
+    let same : c.action_for-action.result ≡ A.action x.a = c.action_for-action.ensures c.args.paired c.asked_absent-asked.ensures in
     let room_is = c.capacity_of-capacity.ensures in
     let I = c.entries.invariant in
     let J = x.invariant in
-    let wanted = new_wanted A t below c.if-is_relevant.ensures c.regress-new.ensures c.if-is_consistent.ensures
+    let wanted = new_wanted A t below same c.if-is_relevant.ensures c.regress-new.ensures c.if-is_consistent.ensures
     (ap is_some (sym c.newest_weaker.ensures.answer) ∙ c.if-is_none.ensures) in
     expands room_is (X.Full _)
-    (holds_on (entries_held lent c.requires.0 room_is (omega arith) c.args.goal c.set_mask.ensures I) J.holds J.grown)
+    (holds_on (entries_held lent c.requires room_is (omega arith) c.args.goal c.set_mask.ensures I) J.holds J.grown)
     (fills J wanted c.if-n-capacity.true)
 
 pub returns-then-ends_list-2 : goal.returns-then-ends_list-2
@@ -123,15 +135,16 @@ returns-then-ends_list-2 c =
     let x = c.actions in
     let t = columns x.conditions x.absences x.actions x.parents x.depths in
     let lent = columns c.args.conditions.now c.args.absences.now c.args.actions.now c.args.parents.now c.args.depths.now in
-    let A = actions_in c.args.jobs.now in
+    let A = actions_for c.args.paired c.args.jobs.now in
     let below : x.a < A.count = omega (arith, c.actions-test.true, c.min-count.ensures) in
+    let same : c.action_for-action.result ≡ A.action x.a = c.action_for-action.ensures c.args.paired c.asked_absent-asked.ensures in
     let room_is = c.capacity_of-capacity.ensures in
     let I = c.entries.invariant in
     let J = x.invariant in
-    let wanted = new_wanted A t below c.if-is_relevant.ensures c.regress-new.ensures c.if-is_consistent.ensures
+    let wanted = new_wanted A t below same c.if-is_relevant.ensures c.regress-new.ensures c.if-is_consistent.ensures
     (ap is_some (sym c.newest_weaker.ensures.answer) ∙ c.if-is_none.ensures) in
     rw c.set_mask-then-is_none.ensures
     (expands room_is (X.Covered (x.n + 1))
-    (holds_on (entries_held lent c.requires.0 room_is (omega arith) c.args.goal c.set_mask.ensures I)
-    (holds_new J wanted c.requires.1 c.if-n-capacity.false) (omega (arith, J.grown)))
-    (ends J wanted c.requires.1 c.if-n-capacity.false (holds _ (sym c.if-ends_list-2.ensures))))
+    (holds_on (entries_held lent c.requires room_is (omega arith) c.args.goal c.set_mask.ensures I)
+    (holds_new J wanted (for_unasked c.args.paired c.args.jobs.now) c.if-n-capacity.false) (omega (arith, J.grown)))
+    (ends J wanted (for_unasked c.args.paired c.args.jobs.now) c.if-n-capacity.false (holds _ (sym c.if-ends_list-2.ensures))))

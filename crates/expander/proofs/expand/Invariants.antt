@@ -2,19 +2,19 @@
 -- the function returns is the outcome of the plan, and the tables hold its list.
 use Prim.Native.Nat.{◌-◌}
 use Rattle.conditions.specs.Condition.{plain}
-use Rattle.expander.specs.Expands.{actions_in, columns, ended_by}
+use Rattle.expander.specs.Expands.{actions_for, columns, ended_by}
 use Rattle.expander.proofs.Loops.{AtEntry, AtAction}
 use Rattle.expander.proofs.expand.Given as goal
 
 abbrev pub invariant-actions : goal.invariant-actions
 invariant-actions l =
-    AtAction l.paired (actions_in l.jobs) (plain l.goal) (ended_by l.until) l.capacity
+    AtAction l.paired (actions_for l.paired l.jobs) (plain l.goal) (ended_by l.until) l.capacity
     (columns l.initial.conditions l.initial.absences l.initial.actions l.initial.parents l.initial.depths) l.initial.n l.e l.condition l.depth
     (columns l.conditions l.absences l.actions l.parents l.depths) l.n l.a
 
 abbrev pub invariant-entries : goal.invariant-entries
 invariant-entries l =
-    AtEntry l.paired (actions_in l.jobs) (plain l.goal) (ended_by l.until) l.capacity
+    AtEntry l.paired (actions_for l.paired l.jobs) (plain l.goal) (ended_by l.until) l.capacity
     (columns l.initial.conditions l.initial.absences l.initial.actions l.initial.parents l.initial.depths) l.initial.n
     (columns l.conditions l.absences l.actions l.parents l.depths) l.n l.e
 
