@@ -1,6 +1,6 @@
 -- What a caller of the expansion learns: the tables hold the list of the plan, and the list has the properties that the theory of plans shows.
 -- Assumes nothing.
-use Rattle.std.specs.Prelude.{◌≡◌, refl, Bool, not, ◌↔◌, List, [], map, ℕ, suc, ◌-◌, ◌^◌, ◌≤◌, ◌<◌, T, length, get_or, take, drop, if◌then◌else◌, None}
+use Rattle.std.specs.Prelude.{◌≡◌, refl, Bool, not, ◌↔◌, List, [], map, ℕ, suc, min, ◌-◌, ◌^◌, ◌≤◌, ◌<◌, T, length, get_or, take, drop, if◌then◌else◌, None}
 use Rattle.std.specs.Int.Bits.{bit_and}
 use Rattle.std.proofs.Common.{sym, ap, ◌∙◌, subst, T_not, length-append}
 use Rattle.std.proofs.Math.Bool.{true, false}
@@ -35,7 +35,7 @@ use Rattle.expander.specs.declared.Expanded.{Expanded}
 use Rattle.expander.specs.declared.Expanded.TheVariants as X
 use Rattle.expander.specs.declared.Until.{Until}
 use Rattle.expander.specs.declared.Until.TheVariants as U
-use Rattle.expander.specs.Expands.{no_action, actions_in, if_paired, action_for, actions_for, Unasked, count_of}
+use Rattle.expander.specs.Expands.{no_action, actions_in, if_paired, action_for, actions_for, Unasked, count_of, actions_of}
 use Rattle.expander.specs.Expands.{Columns, capacity_of, room, held, over, ended_by, plan_in, expanded_of, listed_by, outcome_of, Expands}
 
 -- ---- the facts that are needed absent
@@ -90,6 +90,30 @@ module _ (needs adds deletes : ℕ) where
 pub count_rows : (n : ℕ) → n ≤ 128 → count_of n n n ≡ n
 unfolding count_of
 count_rows n h = omega arith
+
+-- The rows of the actions' masks, of which that of the absent facts is empty where the list is not paired, hold the actions as the list takes them.
+module _ (actions : List Action) where
+  abbrev rows : List ℕ → Actions
+  rows absent = actions_of (map (λ x. x.needs) actions) absent (map (λ x. x.adds) actions) (map (λ x. x.deletes) actions)
+
+  rows_count : count_of (length (map (λ x. x.needs) actions)) (length (map (λ x. x.adds) actions)) (length (map (λ x. x.deletes) actions)) ≡ min (length actions) 128
+  unfolding count_of
+  rows_count = omega (arith, length-map actions (λ x. x.needs), length-map actions (λ x. x.adds), length-map actions (λ x. x.deletes))
+
+  pub rows_for : (paired : Bool) → rows (if paired then map (λ x. x.absent) actions else []) ≡ actions_for paired actions
+  rows_for true =
+      rw rows_count (same_actions (λ a. rw (
+        get_or-map (λ x. x.needs) actions a no_action,
+        get_or-map (λ x. x.absent) actions a no_action,
+        get_or-map (λ x. x.adds) actions a no_action,
+        get_or-map (λ x. x.deletes) actions a no_action,
+      )))
+  rows_for false =
+      rw rows_count (same_actions (λ a. rw (
+        get_or-map (λ x. x.needs) actions a no_action,
+        get_or-map (λ x. x.adds) actions a no_action,
+        get_or-map (λ x. x.deletes) actions a no_action,
+      )))
 
 -- ---- the capacity
 
