@@ -38,7 +38,7 @@ pub fn check_reading(facts: u8, place: usize, reading: Reading) -> Result<Readin
 }
 
 // A start for planning, under a table with so many facts: any reading.
-#[tactic(auto, using(crate::specs::ReadingLaws::start_unsound, crate::specs::ReadingLaws::start_unread, crate::specs::ReadingLaws::start_sound))]
+#[tactic(auto, using(std::proofs::lemmas::Grind::common_steps, refusal::specs::CheckedLaws::then_refused, refusal::specs::CheckedLaws::then_next), unfolding(crate::specs::Reading::checked_start))]
 pub fn check_start(facts: u8, start: Reading) -> Result<Reading, Refusal>
     ensures { answer_of result ≡ checked_start facts start }
 {
