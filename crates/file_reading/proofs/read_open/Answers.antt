@@ -1,5 +1,5 @@
 -- `file_reading::read_open` meets its contract: a read puts the file's next bytes after those that were read before.
-use Rattle.std.proofs.Common.{◌≡◌, refl, sym, ap, ◌∙◌, ℕ, ◌+◌, ◌-◌, ◌≤◌, ◌<◌, List, ◌++◌, Option, Result, Ok, arith, length, take, length-take-le, take_at, drop_at, take-add}
+use Rattle.std.proofs.Common.{◌≡◌, refl, sym, ap, ◌∙◌, ℕ, ◌+◌, ◌≤◌, ◌<◌, List, ◌++◌, Option, Result, Ok, arith, length, take, length-take-le, take_at, drop_at, take-add}
 use Rattle.std.specs.Io.{ReadsAtMost}
 use Rattle.std.specs.Io.KnownBytes.{Consumes, ReadConsumes, IsAtEnd}
 use Rattle.std.proofs.KnownBytes.{Consumes-trans}
@@ -13,6 +13,11 @@ take_both a k n xs ys h l =
     let size : length (take a xs) ≡ a = length-take-le a xs h in
     let rest : List ℕ = ys ++ post_of a k xs in
     rw (take-add a n (put_mid a k xs ys), take_at (take a xs) rest a size, drop_at (take a xs) rest a size, take-append-le n ys (post_of a k xs) l)
+
+-- a read into a part that begins past the bytes that were read before, however long the part is
+next_read : (before here after : Option (List ℕ)) (at k done n sum : ℕ) (xs ys : List ℕ) → at ≡ done → sum ≡ done + n → done ≤ length xs → n ≤ length ys
+    → Consumes before here (take done xs) → Consumes here after (take n ys) → Consumes before after (take sum (put_mid at k xs ys))
+next_read before here after at k done n sum xs ys e s h l first next = rw (e, s, take_both done k n xs ys h l) (Consumes-trans _ _ _ _ _ first next)
 
 -- a read that gave so many bytes, by its answer
 one_read : {E : Type 0} (before after : Option (List ℕ)) (buf : List ℕ) (r : Result ℕ E) (n : ℕ) → r ≡ Ok n → ReadsAtMost r buf → ReadConsumes before after r buf
@@ -29,8 +34,7 @@ loop-done-preserved g c =
     record {
       within = omega arith;
       bytes =
-          rw (sum, take_both l.done (length l.buf - l.done) more l.buf c.read.new.buf (omega arith) few)
-          (Consumes-trans _ _ _ _ _ l.invariant.bytes next);
+          next_read _ _ _ _ _ l.done more c.in-Continue.n l.buf c.read.new.buf (omega arith) sum (omega arith) few l.invariant.bytes next;
     }
 
 pub returns-in-Break : goal.returns-in-Break
@@ -43,7 +47,6 @@ returns-in-Break g c =
     record {
       front = (omega arith, sym (length-take-le c.in-Break.n _ (omega arith)));
       bytes =
-          rw (sum, take_both l.done (length l.buf - l.done) 0 l.buf c.read.new.buf (omega arith) few)
-          (Consumes-trans _ _ _ _ _ l.invariant.bytes next);
+          next_read _ _ _ _ _ l.done 0 c.in-Break.n l.buf c.read.new.buf (omega arith) sum (omega arith) few l.invariant.bytes next;
       end = λ h. end refl (omega arith);
     }
