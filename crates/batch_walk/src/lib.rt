@@ -68,8 +68,11 @@ fn start_all(vehicles: usize, statuses: &mut [u8], values: &mut [u64])
     requires { (vehicles ≤ length statuses.old) × (vehicles ≤ length values.old) }
     ensures { answer_rows statuses.new values.new ≡ over_rows (λ v. numbered Failure) vehicles (answer_rows statuses.old values.old) }
 {
-    statuses[..vehicles].fill(FAILURE);
-    values[..vehicles].fill(0);
+    // Vehicle by vehicle, and not as slices, so that nothing is asked of the C library.
+    for v in 0..vehicles {
+        statuses[v] = FAILURE;
+        values[v] = 0;
+    }
 }
 
 // Does a vehicle go on, and is it not read to lack a fact of an entry's first mask?

@@ -53,8 +53,11 @@ pub fn copy_list(
         ≡ copied n (columns from_conditions.now [] from_actions.now from_parents.now from_depths.now)
         (columns conditions.old [] actions.old parents.old depths.old) }
 {
-    conditions[..n].copy_from_slice(&from_conditions[..n]);
-    actions[..n].copy_from_slice(&from_actions[..n]);
-    parents[..n].copy_from_slice(&from_parents[..n]);
-    depths[..n].copy_from_slice(&from_depths[..n]);
+    // In a loop of its own, and not as slices, so that nothing is asked of the C library.
+    for i in 0..n {
+        conditions[i] = from_conditions[i];
+        actions[i] = from_actions[i];
+        parents[i] = from_parents[i];
+        depths[i] = from_depths[i];
+    }
 }

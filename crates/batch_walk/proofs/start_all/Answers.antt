@@ -1,22 +1,17 @@
 -- `batch_walk::start_all` meets its contract.
-use Rattle.std.proofs.Common.{ℕ, zero, suc, ◌≤◌, ◌≡◌, List, ◌++◌, length, take, drop, refl, add-one}
-use Rattle.std.proofs.Math.ListN.{replicate}
-use Rattle.std.proofs.lemmas.List.{length-take-le, replicate_more}
-use Rattle.base.specs.Lists.{prefix, overlay}
+use Rattle.std.proofs.Common.{◌≡◌, refl, ap, ◌∙◌, arith}
+use Rattle.tree.specs.declared.Status.TheVariants.{Failure}
+use Rattle.batch_walk.specs.Batch.{AnswerRows, answer_rows}
+use Rattle.batch_walk.specs.Steps.{numbered, set_numbered}
+use Rattle.batch_walk.specs.StepLaws.{rows_next}
 use Rattle.batch_walk.proofs.start_all.Goals as goal
 
--- one value at each of the first places
-same_prefix : (n x : ℕ) → prefix (λ i. x) n ≡ replicate n x
-same_prefix zero x = refl
-same_prefix (suc n) x = rw (same_prefix n x, replicate_more n x, add-one n)
+pub loop-v-init : goal.loop-v-init
+loop-v-init c = refl
 
-filled : (n x : ℕ) (before front : List ℕ) → n ≤ length before → front ≡ replicate (length (take n before)) x → front ++ drop n before ≡ overlay (λ i. x) n before
-filled n x before front h e = rw (e, length-take-le n before h, ← same_prefix n x)
-
-pub returns : goal.returns
-returns c =
+pub loop-v-preserved : goal.loop-v-preserved
+loop-v-preserved c =
+    let l = c.loop-v in
     let a = c.args in
-    rw (
-      filled a.vehicles 1 a.statuses.now c.fill.new.self c.requires.0 (c.fill.ensures.after (λ y e. e)),
-      filled a.vehicles 0 a.values.now c.fill-2.new.self c.requires.1 (c.fill-2.ensures.after (λ y e. e)),
-    )
+    ap (λ (t : AnswerRows). set_numbered t l.v (numbered Failure)) l.invariant
+    ∙ rows_next (λ i. numbered Failure) (answer_rows a.statuses.now a.values.now) l.v (omega (arith, c.loop-v-test.true, c.requires)) (omega (arith, c.loop-v-test.true, c.requires))
