@@ -77,32 +77,31 @@ fn start_all(vehicles: usize, statuses: &mut [u8], values: &mut [u64])
 
 // Does a vehicle go on, and is it not read to lack a fact of an entry's first mask?
 #[tactic(auto, unfolding(crate::specs::Steps::may_meet))]
-fn may_meet(present: u64, v: usize, held: &[u64], unread: &[u64], statuses: &[u8]) -> bool
-    requires { (v < length held.now) × (v < length unread.now) × (v < length statuses.now) }
-    ensures { result ≡ may_meet present (reading_at held.now unread.now v) (get_or statuses.now v 0) }
+fn may_meet(present: u64, v: usize, readings: Readings, statuses: &[u8]) -> bool
+    requires { (v < length readings.held.now) × (v < length readings.unread.now) × (v < length statuses.now) }
+    ensures { result ≡ may_meet present (reading_at readings.entry.held.now readings.entry.unread.now v) (get_or statuses.now v 0) }
 {
     if statuses[v] != FAILURE {
         return false;
     }
-    masks::is_subset(present, masks::join(held[v], unread[v]))
+    let reading = readings.at(v);
+    masks::is_subset(present, masks::join(reading.held, reading.unread))
 }
 
-// The next such vehicle, from one on: most are passed over here, in a loop of its own. It is called for every entry, so the rows are lent one by one: a
-// struct of both would be copied at every call.
+// The next such vehicle, from one on: most are passed over here, in a loop of its own.
 #[inline(never)]
 fn next_asked(
     present: u64,
     first: usize,
     vehicles: usize,
-    held: &[u64],
-    unread: &[u64],
+    readings: Readings,
     statuses: &[u8],
 ) -> Option<usize>
-    requires { (vehicles ≤ length held.now) × (vehicles ≤ length unread.now) × (vehicles ≤ length statuses.now) }
-    ensures { NextAsked present held.now unread.now statuses.now first vehicles result }
+    requires { (vehicles ≤ length readings.held.now) × (vehicles ≤ length readings.unread.now) × (vehicles ≤ length statuses.now) }
+    ensures { NextAsked present readings.entry.held.now readings.entry.unread.now statuses.now first vehicles result }
 {
     for v in first..vehicles {
-        if may_meet(present, v, held, unread, statuses) {
+        if may_meet(present, v, readings, statuses) {
             return Some(v);
         }
     }
@@ -155,14 +154,7 @@ fn ask_all(
     let present = condition.present;
     let mut stopped: usize = 0;
     let mut first: usize = 0;
-    while let Some(v) = next_asked(
-        present,
-        first,
-        vehicles,
-        readings.held,
-        readings.unread,
-        statuses,
-    ) {
+    while let Some(v) = next_asked(present, first, vehicles, readings, statuses) {
         stopped += ask(condition, met, v, readings.at(v), statuses, values);
         first = v + 1;
     }
