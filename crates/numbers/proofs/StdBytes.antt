@@ -1,12 +1,13 @@
 -- The number that std's `from_le_bytes` reads and the bytes that its `to_le_bytes` writes are those of the specs, at any width.
 -- Assumes nothing.
-use Rattle.std.specs.Prelude.{ℕ, zero, suc, ◌+◌, ◌-◌, ◌*◌, ◌/◌, ◌%◌, ◌^◌, ◌≤◌, ◌≡◌, refl, List, ◌∷◌, length, take, drop, slice_index}
+use Rattle.std.specs.Prelude.{ℕ, zero, suc, ◌+◌, ◌-◌, ◌*◌, ◌/◌, ◌%◌, ◌^◌, ◌≤◌, ◌<◌, ◌≡◌, refl, List, ◌∷◌, length, take, drop, slice_index}
 use Rattle.std.specs.Int.{byte_at, byte_worth, sum_through, bytes_low_first}
-use Rattle.std.proofs.Common.{add-zero, add-one, pow-suc, div-one, arith, sym, ap, append_assoc}
+use Rattle.std.proofs.Common.{add-zero, zero-add, add-one, pow-suc, div-one, arith, sym, ap, ◌∙◌, append_assoc, length-drop, length-take-le, take_all}
 use Rattle.std.proofs.Math.Nat.{div-div-eq-div-mul}
+use Rattle.std.proofs.Math.Path.{fun_ext}
 use Rattle.std.proofs.lemmas.List.Edits.{sets, sets-eq}
 use borrow.Rule.Slice.PartMut.{put_mid, Post-is}
-use Rattle.numbers.specs.Numbers.{to_bytes, number_at}
+use Rattle.numbers.specs.Numbers.{from_bytes, to_bytes, number_at}
 use Rattle.numbers.specs.NumberLaws.{to_length, read_append, read_byte}
 
 -- a number by its bytes; the last of them is byte k
@@ -22,6 +23,20 @@ two_bytes s at h = number_is 1 s at h
 
 pub eight_bytes : (s : List ℕ) (at : ℕ) → at + 8 ≤ length s → number_at 8 s at ≡ sum_through (λ i. byte_worth i (slice_index s (at + i))) 7
 eight_bytes s at h = number_is 7 s at h
+
+-- the same of a slice's bytes from its front, and of the bytes that lie in a slice from an offset on, at any width
+sum_is : (k : ℕ) (bs : List ℕ) → k < length bs → sum_through (λ i. byte_worth i (slice_index bs i)) k ≡ number_at (suc k) bs 0
+sum_is k bs h =
+    ap (λ (f : ℕ → ℕ). sum_through f k) (fun_ext (λ i. ap (λ (m : ℕ). byte_worth i (slice_index bs m)) (sym (zero-add i)))) ∙ sym (number_is k bs 0 (omega arith))
+
+pub std_reads : (k : ℕ) (s bs : List ℕ) (at next : ℕ) → next ≡ at + suc k → next ≤ length s → bs ≡ take (next - at) (drop at s)
+    → sum_through (λ i. byte_worth i (slice_index bs i)) k ≡ number_at (suc k) s at
+unfolding number_at
+std_reads k s bs at next e h part =
+    let width : next - at ≡ suc k = omega arith in
+    let front : bs ≡ take (suc k) (drop at s) = rw width at part in
+    let size : length bs ≡ suc k = rw front (length-take-le (suc k) (drop at s) (simp length-drop (omega arith))) in
+    sum_is k bs (omega arith) ∙ ap from_bytes (take_all (suc k) bs (omega arith) ∙ front)
 
 low_first : (k i v : ℕ) → bytes_low_first i k v ≡ to_bytes k (v / 256 ^ i)
 unfolding to_bytes
