@@ -2,15 +2,16 @@
 -- loop stands, gives the outcome of the whole.
 -- Assumes nothing.
 use mathlib.Core.Path.{◌≡◌, refl, sym, ap, ◌∙◌}
-use mathlib.Core.Bool.{Bool, not, ◌&&◌}
-use mathlib.Core.List.{[], ◌∷◌, ◌++◌}
-use Prim.Native.Nat.{ℕ, ◌+◌, ◌≤◌, ◌<◌}
+use mathlib.Core.Bool.{Bool, true, false, not, ◌&&◌}
+use mathlib.Core.List.{List, [], ◌∷◌, ◌++◌}
+use Prim.Native.Nat.{ℕ, ◌+◌, ◌-◌, ◌≤◌, ◌<◌}
 use native.Mathlib.Omega.{arith}
 use native.Mathlib.Numerals.{add-one}
 use lib.Dec.{T, T_not, not_T, ltb, lt→ltb}
 use lib.ListN.{length, get_or}
 use lib.Seq.{get_or-set_other}
 use Rattle.base.specs.Bools.{and_intro, and_right}
+use Rattle.conditions.specs.declared.Action.{Action}
 use Rattle.conditions.specs.declared.Condition.{Condition}
 use Rattle.conditions.specs.Condition.{consistent, relevant, regressed, condition_at}
 use Rattle.conditions.specs.Search.{newest_weaker}
@@ -22,8 +23,9 @@ use Rattle.planning.proofs.ExpansionSteps.{list_grows}
 use Rattle.planning.proofs.SearchLaws.{wanted_intro, unwanted_irrelevant, unwanted_unsatisfiable, unwanted_listed}
 use Rattle.planning.proofs.ColumnLaws.{length_prefix, get_d_prefix, entries_store}
 use Rattle.planning.specs.Facts.{Actions, unit_domain, fact_plan}
-use Rattle.expander.specs.Expands.{Columns, room, held, Unlent, Unasked}
-use Rattle.expander.specs.ExpandsLaws.{entry_of, nowhere_unlisted}
+use Rattle.planning.proofs.FactLaws.{fact_same, from_same, at_same}
+use Rattle.expander.specs.Expands.{Columns, actions_in, actions_for, room, held, Unlent, Unasked}
+use Rattle.expander.specs.ExpandsLaws.{counted_unasked, entry_of, nowhere_unlisted}
 use Rattle.expander.proofs.Tables.{Holds, store, holds_none, holds_store, holds_self, holds_on, second_nothing, second_read}
 use Rattle.std.specs.Prelude.{None}
 
@@ -249,3 +251,33 @@ module _ {paired : Bool} {A : Actions} {goal : Condition} {stop : Condition → 
                 (rw new_is s) (omega (arith, I.inside, its_length)))
                 ∙ I.same);
           }
+
+-- ---- where no action that counts needs a fact absent, what holds at the head of each loop holds of the actions as they are
+
+module _ {goal : Condition} {stop : Condition → Bool} {capacity : ℕ} {t₀ t : Columns} {n₀ n e : ℕ} where
+  pub entry_unasked : (paired : Bool) (actions : List Action) → Unasked paired (actions_in actions)
+      → AtEntry paired (actions_for paired actions) goal stop capacity t₀ n₀ t n e → AtEntry paired (actions_in actions) goal stop capacity t₀ n₀ t n e
+  entry_unasked true actions u I = I
+  entry_unasked false actions u I =
+      let same = counted_unasked actions u in
+      record {
+        holds = I.holds;
+        grown = I.grown;
+        inside = I.inside;
+        same = sym (from_same same goal capacity stop (capacity - e) e (held t n)) ∙ I.same ∙ fact_same same goal capacity stop;
+      }
+
+  module _ {c : Condition} {d a : ℕ} where
+    pub action_unasked : (paired : Bool) (actions : List Action) → Unasked paired (actions_in actions)
+        → AtAction paired (actions_for paired actions) goal stop capacity t₀ n₀ e c d t n a → AtAction paired (actions_in actions) goal stop capacity t₀ n₀ e c d t n a
+    action_unasked true actions u I = I
+    action_unasked false actions u I =
+        let same = counted_unasked actions u in
+        record {
+          holds = I.holds;
+          grown = I.grown;
+          inside = I.inside;
+          its_condition = I.its_condition;
+          its_depth = I.its_depth;
+          same = sym (at_same same goal capacity stop e a (held t n)) ∙ I.same ∙ fact_same same goal capacity stop;
+        }

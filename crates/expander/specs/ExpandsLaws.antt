@@ -30,7 +30,7 @@ use Rattle.planning.proofs.DemandLaws.{planned_fits, planned_good, planned_actio
 use Rattle.planning.specs.Columns.{entry_at}
 use Rattle.planning.proofs.ColumnLaws.{length_prefix, get_d_prefix}
 use Rattle.planning.specs.Facts.{Actions, unit_domain, Separate, WithinFacts}
-use Rattle.planning.proofs.FactLaws.{fact_plannable, fact_start_first, fact_no_way, entry_within}
+use Rattle.planning.proofs.FactLaws.{fact_plannable, fact_start_first, fact_no_way, fact_same, entry_within}
 use Rattle.expander.specs.declared.Expanded.{Expanded}
 use Rattle.expander.specs.declared.Expanded.TheVariants as X
 use Rattle.expander.specs.declared.Until.{Until}
@@ -52,20 +52,34 @@ pub for_unasked : (paired : Bool) (actions : List Action) → Unasked paired (ac
 for_unasked true actions p a h = absurd p
 for_unasked false actions p a h = refl
 
+plain_action : (x : Action) → x.absent ≡ 0 → action_for false x ≡ x
+plain_action x z = rw (sym z)
+
 -- where no action needs one absent, it takes the actions as they are
 pub for_all : (paired : Bool) (actions : List Action) → length actions ≤ 128 → Unasked paired (actions_in actions)
     → actions_for paired actions ≡ actions_in actions
 for_all true actions few u = refl
 for_all false actions few u = same_actions (λ a. plain_action (get_or actions a no_action) (none a))
   where
-    plain_action : (x : Action) → x.absent ≡ 0 → action_for false x ≡ x
-    plain_action x z = rw (sym z)
-
     none : (a : ℕ) → (get_or actions a no_action).absent ≡ 0
     none a = elim (dec_le (length actions) a) [
       | yes past ↦ rw (get_or-eq_default actions no_action past)
       | no l ↦ u tt a (omega (arith, few))
     ]
+
+-- so it takes those that count, however many the list has
+pub counted_unasked : (actions : List Action) → Unasked false (actions_in actions) → (a : ℕ) → a < min (length actions) 128
+    → action_for false (get_or actions a no_action) ≡ get_or actions a no_action
+counted_unasked actions u a h = plain_action (get_or actions a no_action) (u tt a h)
+
+-- and an expansion is the same, since those past the 128 do not count
+pub expands_unasked : (paired : Bool) (actions : List Action) → Unasked paired (actions_in actions)
+    → {goal : Condition} {until : Until} {before after : Columns} {r : Expanded} → Expands paired (actions_for paired actions) goal until before after r
+    → Expands paired (actions_in actions) goal until before after r
+expands_unasked true actions u E = E
+expands_unasked false actions u {goal} {until} {before} E =
+    let e = fact_same (counted_unasked actions u) goal (room before false) (ended_by until) in
+    record { answer = rw e at E.answer; outcome = rw e at E.outcome; tables = rw e at E.tables }
 
 -- ---- the number of actions in rows of masks
 

@@ -4,7 +4,7 @@
 
 ghost use Rattle.std.specs.Prelude.{◌≡◌, Bool};
 ghost use Rattle.conditions.specs.Condition.{plain};
-ghost use Rattle.expander.specs.Expands.{action_for, actions_for, Asks, columns, capacity_of, ended_by, if_paired, Unlent, Expands};
+ghost use Rattle.expander.specs.Expands.{action_for, actions_for, actions_in, Asks, columns, capacity_of, ended_by, if_paired, Unlent, Unasked, Expands};
 
 use conditions::{Action, Condition};
 
@@ -94,7 +94,7 @@ fn ends_list(until: Until, condition: Condition) -> bool
 
 // Lists the conditions from which the jobs lead to the goal, nearest first, up to the first that ends the list. Entry i stands at i of `conditions`,
 // `absences`, `actions`, `parents` and `depths`, where `actions` has the number of a job. For a list that is not paired no second masks are lent, and
-// the facts that its jobs need absent do not count.
+// the facts that its jobs need absent do not count: where none of them needs one, the list is that of the jobs as they are.
 #[tactic(auto, using(crate::specs::ExpandsLaws::capacity_conditions, crate::specs::ExpandsLaws::capacity_actions, crate::specs::ExpandsLaws::capacity_parents, crate::specs::ExpandsLaws::capacity_depths))]
 pub fn expand(
     paired: bool,
@@ -108,7 +108,10 @@ pub fn expand(
     depths: &mut [u16],
 ) -> Expanded
     requires { Unlent paired absences.old }
-    ensures { Expands paired (actions_for paired jobs.now) (plain goal) until
+    ensures taken { Expands paired (actions_for paired jobs.now) (plain goal) until
+        (columns conditions.old absences.old actions.old parents.old depths.old)
+        (columns conditions.new absences.new actions.new parents.new depths.new) result }
+    ensures as_they_are { Unasked paired (actions_in jobs.now) → Expands paired (actions_in jobs.now) (plain goal) until
         (columns conditions.old absences.old actions.old parents.old depths.old)
         (columns conditions.new absences.new actions.new parents.new depths.new) result }
 {
@@ -170,5 +173,53 @@ pub fn expand(
             }
         }
         e += 1;
+    }
+}
+
+#[cfg(test)]
+mod tests {
+    use super::{Action, Expanded, Until, expand};
+
+    // Document 01: "0 to 128 JOBs numbered from 0". The goal is fact 0, and one job adds it, which needs fact 1 absent.
+    #[test]
+    fn no_more_than_128_jobs_count(rt: HostRuntime) {
+        let idle = Action {
+            needs: 0,
+            absent: 0,
+            adds: 0,
+            deletes: 0,
+        };
+        let adds_goal = Action {
+            absent: 2,
+            adds: 1,
+            ..idle
+        };
+        // Where that job stands, and the conditions that are listed: the goal, and what the job needs, which is nothing.
+        for (at, list, entries) in [(127, [1, 0, 9, 9], 2), (128, [1, 9, 9, 9], 1)] {
+            let mut jobs = [idle; 129];
+            jobs[at] = adds_goal;
+            let mut conditions = [9; 4];
+            let mut actions = [9; 4];
+            let mut parents = [9; 4];
+            let mut depths = [9; 4];
+            let listed = expand(
+                false,
+                &jobs,
+                1,
+                Until::Never,
+                &mut conditions,
+                &mut [],
+                &mut actions,
+                &mut parents,
+                &mut depths,
+            );
+            let stored = match listed {
+                Expanded::Exhausted(n) => n,
+                Expanded::Covered(_) => 0,
+                Expanded::Full(_) => 0,
+            };
+            assert_eq!(rt; stored, entries, "job {at}");
+            assert_eq!(rt; conditions, list, "job {at}");
+        }
     }
 }

@@ -1,22 +1,25 @@
 -- The laws of the domain of facts, and demand 3 in it: document 01, "Work on a vehicle"; document 02, W10.
 -- Assumes nothing.
-use Rattle.std.specs.Prelude.{◌≡◌, refl, Bool, false, ◌&&◌, List, ◌↔◌, ℕ, suc, ◌≤◌, ◌<◌, T, ltb, length}
-use Rattle.std.proofs.Common.{sym, T_not, ltb→lt, arith}
+use Rattle.std.specs.Prelude.{◌≡◌, refl, Bool, true, false, not, ◌&&◌, ◌||◌, List, [], ◌∷◌, ◌++◌, ◌↔◌, ℕ, zero, suc, ◌-◌, ◌≤◌, ◌<◌, T, ltb, length}
+use Rattle.std.proofs.Common.{sym, ap, ◌∙◌, T_not, ltb→lt, arith}
 use Rattle.std.proofs.Math.Dec.{not_T}
+use Rattle.std.proofs.Math.Decide.{dec_le}
 use Rattle.base.specs.Lists.{prefix}
 use Rattle.base.specs.Bools.{and_intro, and_left, and_right}
 use Rattle.masks.specs.Sets.{within}
 use Rattle.conditions.specs.declared.Action.{Action}
 use Rattle.conditions.specs.declared.Condition.{Condition}
-use Rattle.conditions.specs.Condition.{consistent, satisfied, relevant, condition_within}
+use Rattle.conditions.specs.Condition.{weaker, consistent, satisfied, relevant, condition_within}
 use Rattle.conditions.specs.ConditionLaws.{weaker_refl, weaker_satisfied, satisfied_consistent, irrelevant_kept, regressed_held, regressed_applicable, relevant_achieves, applied_within, regressed_within}
 use Rattle.conditions.specs.ConditionLaws.{plain_regressed, satisfied_itself, satisfied_weaker, itself_within}
 use Rattle.planning.specs.Domain.{Domain, Laws, Plannable}
 use Rattle.planning.specs.Sequence.{Answer, Reaches}
-use Rattle.planning.specs.Expansion.{Entry, exhausted, covered, entries, entry_in, expand}
+use Rattle.planning.specs.Expansion.{Entry, Outcome, exhausted, covered, full, entries, and_then, root, entry_in, new_entry, listed, wanted, expand_entry, expand_from, expand, remaining_at}
 use Rattle.planning.specs.Demand.{FirstIn, CoveredBy, tick_list, Fewest}
 use Rattle.planning.proofs.DemandLaws.{fewest, fewest_transfer, planned_condition, planned_satisfiable, irredundant, replan, unending, start_first, covers_all, no_way, covered_iff, distance}
-use Rattle.planning.specs.Facts.{Actions, fact_domain, unit_domain, start_plan, shift_plan, Separate, Plain, WithinFacts}
+use Rattle.planning.proofs.Logic.{choice_false}
+use Rattle.planning.proofs.SearchLaws.{wanted_relevant}
+use Rattle.planning.specs.Facts.{Actions, fact_domain, unit_domain, fact_plan, start_plan, shift_plan, Separate, Plain, WithinFacts}
 
 module _ (A : Actions) where
   abbrev act : ℕ → Action
@@ -137,3 +140,80 @@ module _ (A : Actions) (goal : Condition) where
     -- "No way: every entry is expanded and none is part of the start." Then no sequence reaches the goal from it.
     pub fact_no_way : Separate A → (l : List (Entry Condition)) → start_plan A goal capacity start ≡ exhausted l → (w : List ℕ) → Reaches D start w → ⊥
     fact_no_way separate l e = no_way fact_plannable capacity (λ c. satisfied c start) l e (laws separate) start (λ c t. t)
+
+-- ---- actions past the count
+
+-- what stands past the count makes no plan another
+module _ {n : ℕ} {f g : ℕ → Action} (same : (a : ℕ) → a < n → f a ≡ g a) (goal : Condition) where
+  abbrev numbered : (ℕ → Action) → Actions
+  numbered h = record { count = n; action = h }
+
+  abbrev F : Domain ℕ Condition ℕ
+  F = unit_domain (numbered f) goal
+
+  abbrev G : Domain ℕ Condition ℕ
+  G = unit_domain (numbered g) goal
+
+  listed_same : (l : List (Entry Condition)) (c : Condition) → listed F l c ≡ listed G l c
+  unfolding listed
+  listed_same [] c = refl
+  listed_same (x ∷ l) c = ap (λ (b : Bool). weaker x.condition c || b) (listed_same l c)
+
+  wanted_same : (a : ℕ) (x : Entry Condition) (l : List (Entry Condition)) → a < n → wanted F a x l ≡ wanted G a x l
+  wanted_same a x l h = rw (same a h, listed_same) refl
+
+  past_unwanted : (h : ℕ → Action) (a : ℕ) (x : Entry Condition) (l : List (Entry Condition)) → n ≤ a → T (not (wanted (unit_domain (numbered h) goal) a x l))
+  past_unwanted h a x l past =
+      let D = unit_domain (numbered h) goal in
+      not_T (wanted D a x l) (λ t. absurd (omega (arith, past, (fact_plannable (numbered h) goal).below_count a x.condition (wanted_relevant D a x l t))))
+
+  module _ (capacity : ℕ) (stop : Condition → Bool) where
+    -- a turn of the expansion, by the new entry and what follows
+    abbrev turn : List (Entry Condition) → Bool → Entry Condition → (passed grown : Outcome Condition) → Outcome Condition
+    turn l wanted new passed grown =
+        elim wanted [
+          | false ↦ passed
+          | true ↦ elim (ltb (length l) capacity) [
+            | false ↦ full l
+            | true ↦ elim (stop new.condition) [ true ↦ covered (l ++ (new ∷ [])) | false ↦ grown ]
+          ]
+        ]
+
+    entry_same : (left a e : ℕ) (x : Entry Condition) (l : List (Entry Condition))
+        → expand_entry F n capacity stop left a e x l ≡ expand_entry G n capacity stop left a e x l
+    unfolding expand_entry
+    entry_same zero a e x l = refl
+    entry_same (suc left) a e x l =
+        elim (dec_le n a) [
+          | yes past ↦
+              choice_false (wanted F a x l) _ _ (past_unwanted f a x l past)
+              ∙ entry_same left (suc a) e x l
+              ∙ sym (choice_false (wanted G a x l) _ _ (past_unwanted g a x l past))
+          | no below ↦
+              let h : a < n = omega arith in
+              let new : new_entry F a e x ≡ new_entry G a e x = rw (same a h) refl in
+              let grown = ap (λ (y : Entry Condition). expand_entry F n capacity stop left (suc a) e x (l ++ (y ∷ []))) new
+              ∙ entry_same left (suc a) e x (l ++ (new_entry G a e x ∷ [])) in
+              λ k. turn l (wanted_same a x l h k) (new k) (entry_same left (suc a) e x l k) (grown k)
+        ]
+
+    -- from where the loop over the entries stands, and the loop over the actions
+    pub from_same : (left e : ℕ) (l : List (Entry Condition)) → expand_from F n capacity stop left e l ≡ expand_from G n capacity stop left e l
+    unfolding expand_from
+    from_same zero e l = refl
+    from_same (suc left) e l =
+        λ k. elim (ltb e (length l)) [
+          | false ↦ exhausted l
+          | true ↦ and_then (entry_same n 0 e (entry_in F l e) l k) (λ m. from_same left (suc e) m k)
+        ]
+
+    pub at_same : (e a : ℕ) (l : List (Entry Condition)) → remaining_at F n capacity stop e a l ≡ remaining_at G n capacity stop e a l
+    at_same e a l = λ k. and_then (entry_same (n - a) a e (entry_in F l e) l k) (λ m. from_same (capacity - suc e) (suc e) m k)
+
+    pub fact_same : fact_plan (numbered f) goal capacity stop ≡ fact_plan (numbered g) goal capacity stop
+    unfolding expand
+    fact_same =
+        λ k. elim (ltb 0 capacity) [
+          | false ↦ full []
+          | true ↦ elim (stop goal) [ true ↦ covered (root F ∷ []) | false ↦ from_same capacity 0 (root F ∷ []) k ]
+        ]

@@ -31,4 +31,4 @@ returns c =
     λ t r. expands_table a.table.now (λ i. search rules) a.header c.requires.0 t r (take a.header.jobs c.load.new.row) loaded a.until
     (columns a.conditions.now a.absences.now a.actions.now a.parents.now a.depths.now)
     (columns c.expand.new.conditions c.expand.new.absences c.expand.new.actions c.expand.new.parents c.expand.new.depths) c.expand.result
-    (rw taken at c.expand.ensures)
+    (rw taken at c.expand.ensures.taken)

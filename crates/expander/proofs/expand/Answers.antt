@@ -9,9 +9,11 @@ use Rattle.conditions.specs.declared.Condition.{Condition}
 use Rattle.conditions.specs.Condition.{plain, relevant, consistent, regressed}
 use Rattle.conditions.specs.Search.{newest_weaker}
 use Rattle.planning.specs.Facts.{Actions}
+use Rattle.expander.specs.declared.Expanded.{Expanded}
 use Rattle.expander.specs.declared.Expanded.TheVariants as X
-use Rattle.expander.specs.Expands.{actions_for, Columns, columns, room, ended_by, Unlent}
-use Rattle.expander.specs.ExpandsLaws.{for_unasked}
+use Rattle.expander.specs.declared.Until.{Until}
+use Rattle.expander.specs.Expands.{actions_in, actions_for, Columns, columns, room, ended_by, Unlent, Unasked, Expands}
+use Rattle.expander.specs.ExpandsLaws.{for_unasked, expands_unasked}
 use Rattle.expander.proofs.Tables.{Holds, holds_none, holds_on, expands}
 use Rattle.expander.proofs.Loops.{AtEntry, Wanted, no_room, root_held, goal_met, first_entry, exhausts}
 use Rattle.expander.proofs.Loops.{enter, leave, skip_irrelevant, skip_inconsistent, skip_listed, fills, holds_new, ends, grows}
@@ -43,11 +45,20 @@ entries_held : {paired : Bool} {A : Actions} {root : Condition} {stop : Conditio
     → Holds paired capacity n lent t
 entries_held lent u room_is some goal s I = holds_on (root_held (plain goal) lent u room_is some) (rw s at I.holds) I.grown
 
+-- what is told of the actions as the list takes them, and as they are where it takes them so
+told : {paired : Bool} (jobs : List Action) {goal : Condition} {until : Until} {before after : Columns} {r : Expanded}
+    → Expands paired (actions_for paired jobs) goal until before after r → record {
+      taken : Expands paired (actions_for paired jobs) goal until before after r;
+      as_they_are : Unasked paired (actions_in jobs) → Expands paired (actions_in jobs) goal until before after r;
+    }
+told {paired} jobs E = record { taken = E; as_they_are = λ u. expands_unasked paired jobs u E }
+
 pub returns-then-capacity-eq0 : goal.returns-then-capacity-eq0
 returns-then-capacity-eq0 c =
     let lent = columns c.args.conditions.now c.args.absences.now c.args.actions.now c.args.parents.now c.args.depths.now in
     let room_is = c.capacity_of-capacity.ensures in
-    expands room_is (X.Full 0) (holds_none lent c.requires room_is) (no_room _ _ _ _ lent c.requires room_is c.if-capacity-eq0.true)
+    told c.args.jobs.now
+    (expands room_is (X.Full 0) (holds_none lent c.requires room_is) (no_room _ _ _ _ lent c.requires room_is c.if-capacity-eq0.true))
 
 pub returns-then-ends_list : goal.returns-then-ends_list
 returns-then-ends_list c =
@@ -57,8 +68,9 @@ returns-then-ends_list c =
     let A = actions_for c.args.paired c.args.jobs.now in
     let root = plain c.args.goal in
     rw c.set_mask.ensures
+    (told c.args.jobs.now
     (expands room_is (X.Covered 1) (root_held root lent c.requires room_is some)
-    (goal_met c.args.paired A root (ended_by c.args.until) lent c.requires room_is refl some (holds _ (sym c.if-ends_list.ensures))))
+    (goal_met c.args.paired A root (ended_by c.args.until) lent c.requires room_is refl some (holds _ (sym c.if-ends_list.ensures)))))
 
 pub entries-init : goal.entries-init
 entries-init c =
@@ -109,9 +121,10 @@ returns-then-e-n c =
     let lent = columns c.args.conditions.now c.args.absences.now c.args.actions.now c.args.parents.now c.args.depths.now in
     let room_is = c.capacity_of-capacity.ensures in
     let I = c.entries.invariant in
-    expands room_is (X.Exhausted _)
+    told c.args.jobs.now
+    (expands room_is (X.Exhausted _)
     (entries_held lent c.requires room_is (omega arith) c.args.goal c.set_mask.ensures I)
-    (exhausts I c.if-e-n.true)
+    (exhausts I c.if-e-n.true))
 
 pub returns-then-n-capacity : goal.returns-then-n-capacity
 returns-then-n-capacity c =
@@ -126,9 +139,10 @@ returns-then-n-capacity c =
     let J = x.invariant in
     let wanted = new_wanted A t below same c.if-is_relevant.ensures c.regress-new.ensures c.if-is_consistent.ensures
     (ap is_some (sym c.newest_weaker.ensures.answer) ∙ c.if-is_none.ensures) in
-    expands room_is (X.Full _)
+    told c.args.jobs.now
+    (expands room_is (X.Full _)
     (holds_on (entries_held lent c.requires room_is (omega arith) c.args.goal c.set_mask.ensures I) J.holds J.grown)
-    (fills J wanted c.if-n-capacity.true)
+    (fills J wanted c.if-n-capacity.true))
 
 pub returns-then-ends_list-2 : goal.returns-then-ends_list-2
 returns-then-ends_list-2 c =
@@ -144,7 +158,8 @@ returns-then-ends_list-2 c =
     let wanted = new_wanted A t below same c.if-is_relevant.ensures c.regress-new.ensures c.if-is_consistent.ensures
     (ap is_some (sym c.newest_weaker.ensures.answer) ∙ c.if-is_none.ensures) in
     rw c.set_mask-then-is_none.ensures
+    (told c.args.jobs.now
     (expands room_is (X.Covered (x.n + 1))
     (holds_on (entries_held lent c.requires room_is (omega arith) c.args.goal c.set_mask.ensures I)
     (holds_new J wanted (for_unasked c.args.paired c.args.jobs.now) c.if-n-capacity.false) (omega (arith, J.grown)))
-    (ends J wanted (for_unasked c.args.paired c.args.jobs.now) c.if-n-capacity.false (holds _ (sym c.if-ends_list-2.ensures))))
+    (ends J wanted (for_unasked c.args.paired c.args.jobs.now) c.if-n-capacity.false (holds _ (sym c.if-ends_list-2.ensures)))))
